@@ -1,7 +1,7 @@
--- Bytes, and what each can do in a text. Assumes nothing.
-use mathlib.Core.Bool.{Bool, true, false, cond, _||_}
-use mathlib.Core.List.{List, [], _∷_}
-use Prim.Native.Nat.{ℕ, _+_}
+-- What each byte can do in a text. Assumes nothing.
+use mathlib.Core.Bool.{Bool, cond, _||_}
+use mathlib.Core.Bool.{true, false}
+use Prim.Native.Nat.{ℕ}
 use lib.Dec.{eqb, leb}
 
 abbrev pub between : ℕ → ℕ → ℕ → Bool
@@ -18,5 +18,15 @@ abbrev pub letter : ℕ → Bool
 letter b = between 97 122 b || between 65 90 b
 
 -- the characters of an identifier: the letters and + - * / _ ! ?
-abbrev pub wordly : ℕ → Bool
-wordly b = letter b || (eqb b 43 || (eqb b 45 || (eqb b 42 || (eqb b 47 || (eqb b 95 || (eqb b 33 || eqb b 63))))))
+abbrev pub identifying : ℕ → Bool
+identifying b =
+    letter b || (eqb b 43 || (eqb b 45 || (eqb b 42 || (eqb b 47 || (eqb b 95 || (eqb b 33 || eqb b 63))))))
+
+abbrev pub minus : ℕ
+minus = 45
+
+abbrev pub quote : ℕ
+quote = 34
+
+abbrev pub at : ℕ
+at = 64
