@@ -1,2 +1,4 @@
 pub mod Byte
+pub mod Keyword
 pub mod Token
+pub mod Lexing

@@ -1,16 +1,12 @@
 -- Tokens as the grammar sees them, and how each is written. Assumes nothing.
-use mathlib.Core.Path.{_≡_}
-use mathlib.Core.Bool.{Bool, true, false, not}
 use mathlib.Core.List.{List, [], _∷_, _++_}
 use Prim.Native.Nat.{ℕ}
-use lib.Chars.{codes}
 use Rattle.lexer.specs.declared.token.Keyword.{Keyword}
-use Rattle.lexer.specs.declared.token.Keyword.the-variants.{Class, Begin, End, Def, If, Then, Else, While, Do, New, InstanceOf, SelfWord, Nil}
 use Rattle.lexer.specs.declared.token.Symbol.{Symbol}
 use Rattle.lexer.specs.declared.token.Symbol.the-variants.{Dot, Comma, Semicolon, OpenParen, CloseParen, Equals, Less}
 use Rattle.lexer.specs.declared.token.Token.{Token}
 use Rattle.lexer.specs.declared.token.Token.the-variants as case
-use Rattle.lexer.specs.Byte.{quote}
+use Rattle.lexer.specs.Keyword.{word}
 
 -- a token: its kind and its bytes (a field's with its `@`, a string's without its quotes)
 pub data Terminal : Type 0 where
@@ -20,21 +16,6 @@ pub data Terminal : Type 0 where
   string : List ℕ → Terminal
   keyword : Keyword → Terminal
   symbol : Symbol → Terminal
-
-abbrev pub word : Keyword → List ℕ
-word Class = codes "class"
-word Begin = codes "begin"
-word End = codes "end"
-word Def = codes "def"
-word If = codes "if"
-word Then = codes "then"
-word Else = codes "else"
-word While = codes "while"
-word Do = codes "do"
-word New = codes "new"
-word InstanceOf = codes "instanceof"
-word SelfWord = codes "self"
-word Nil = codes "nil"
 
 abbrev pub sign : Symbol → ℕ
 sign Dot = 46
@@ -50,7 +31,7 @@ abbrev pub spelling : Terminal → List ℕ
 spelling (identifier w) = w
 spelling (integer w) = w
 spelling (field w) = w
-spelling (string w) = quote ∷ (w ++ quote ∷ [])
+spelling (string w) = 34 ∷ (w ++ 34 ∷ [])
 spelling (keyword k) = word k
 spelling (symbol s) = sign s ∷ []
 

@@ -1,4 +1,6 @@
 // The tokens of a text.
+ghost use mathlib.Core.Path.{_≡_};
+ghost use Rattle.lexer.specs.Keyword.{word};
 
 #[derive(Clone, Copy)]
 pub enum Keyword {
@@ -15,6 +17,28 @@ pub enum Keyword {
     InstanceOf,
     SelfWord,
     Nil,
+}
+
+impl Keyword {
+    pub fn word(self) -> &'static [u8]
+        ensures its_letters { λ r. ⌜ now r ≡ word self ⌝ }
+    {
+        match self {
+            Keyword::Class => b"class",
+            Keyword::Begin => b"begin",
+            Keyword::End => b"end",
+            Keyword::Def => b"def",
+            Keyword::If => b"if",
+            Keyword::Then => b"then",
+            Keyword::Else => b"else",
+            Keyword::While => b"while",
+            Keyword::Do => b"do",
+            Keyword::New => b"new",
+            Keyword::InstanceOf => b"instanceof",
+            Keyword::SelfWord => b"self",
+            Keyword::Nil => b"nil",
+        }
+    }
 }
 
 #[derive(Clone, Copy)]
