@@ -1,3 +1,10 @@
 pub mod Front
 pub mod Keywords
 pub mod Placing
+pub mod ByteKinds
+pub mod Runs
+pub mod Sound
+pub mod Complete
+pub mod Longest
+pub mod Reading
+pub mod Onward

@@ -9,6 +9,8 @@ ghost use Rattle.std.specs.shelf.Text.{sameBytes};
 ghost use Rattle.lexer.specs.declared.token.Keyword.the-variants.{Class};
 ghost use Rattle.lexer.specs.Keyword.{keywords, keywordOf};
 ghost use Rattle.lexer.specs.Token.{terminal};
+ghost use Rattle.lexer.specs.Tokens.{tokens, judged, refused};
+ghost use Rattle.lexer.specs.Law.{Law};
 ghost use Rattle.lexer.specs.Lexing.{front, worded, named, wordOf, integerOf, minusOf, fieldOf, stringOf, first, placed, lexed, begins, starts, answer, next};
 
 pub mod byte;
@@ -207,4 +209,16 @@ pub fn next_token<'a>(text: &'a [u8], at: usize) -> Result<Option<Lexed<'a>>, St
         return Ok(None);
     }
     Ok(Some(token_at(text, from)?))
+}
+
+// Does every byte but a blank belong to a token? If not, where is the first that does not, or the quote that is never closed?
+pub fn check_text(text: &[u8]) -> Result<(), Stray>
+    ensures first_stray_byte { λ r. ⌜ refused r ≡ judged (tokens (now (text .entry))) ⌝ }
+    ensures tokens_and_blanks_are_the_text { λ _. ⌜ Law ⌝ }
+{
+    let mut at = 0;
+    while let Some(lexed) = next_token(text, at)? {
+        at = lexed.to;
+    }
+    Ok(())
 }
