@@ -1,4 +1,4 @@
--- The scan of what is left of a text, one token on. Assumes nothing.
+-- What is left of a text, one token on. Assumes nothing.
 use mathlib.Core.Path.{_≡_, refl, sym, ap, subst, _∙_}
 use mathlib.Core.Logic.{⊎-elim}
 use mathlib.Core.Bool.{Bool, true, false, cond}
@@ -16,11 +16,12 @@ use Rattle.lexer.specs.Byte.{blank, goesOn}
 use Rattle.lexer.specs.Token.{Terminal, spelling}
 use Rattle.lexer.specs.Lexing.{front, first, placed, next, Next}
 use Rattle.lexer.specs.Tokens.{Placed, Tokens, all, stray, before, took, scan, tokens, judged}
-use Rattle.lexer.specs.Law.{Begins, Stops}
+use Rattle.lexer.specs.Law.{Stops, Begins, Reads, here, gap, item, Stuck, stuck, Stands}
 use Rattle.lexer.proofs.Front.{front-passes, front-stops, front-none}
 use Rattle.lexer.proofs.Placing.{next-end, next-placed, next-past}
 use Rattle.lexer.proofs.Runs.{left, split}
 use Rattle.lexer.proofs.Sound.{first-sound}
+use Rattle.lexer.proofs.Complete.{first-complete}
 use Rattle.lexer.proofs.Reading.{scan-item, spelled}
 
 abbrev pub Onward : List ℕ → ℕ → Next → Type 0
@@ -45,6 +46,23 @@ unfolding scan front
 scan-blanks [] at = refl
 scan-blanks (b ∷ bs) at = blanks-by b bs at (blank b) refl (scan-blanks bs (at + 1))
 
+reads-blanks-by : (b : ℕ) (bs : List ℕ) (at : ℕ) (ps : List Placed) (rest : List ℕ) (x : Bool) → blank b ≡ x
+    → (Reads (at + 1 + length (front blank bs)) (left blank bs) ps rest → Reads (at + 1) bs ps rest)
+    → Reads (at + length (front blank (b ∷ bs))) (left blank (b ∷ bs)) ps rest → Reads at (b ∷ bs) ps rest
+reads-blanks-by b bs at ps rest true e again r =
+    let k : at + length (b ∷ front blank bs) ≡ at + 1 + length (front blank bs) = omega arith in
+    let r′ : Reads (at + length (b ∷ front blank bs)) (left blank bs) ps rest = rw (front-passes blank b bs e) at r in
+    gap e (again (subst (λ a. Reads a (left blank bs) ps rest) k r′))
+reads-blanks-by b bs at ps rest false e again r =
+    let r′ : Reads (at + 0) (b ∷ bs) ps rest = rw (front-stops blank b bs e) at r in
+    subst (λ a. Reads a (b ∷ bs) ps rest) (add-zero at) r′
+
+-- what is read behind blanks is read with them
+reads-blanks : (bs : List ℕ) (at : ℕ) (ps : List Placed) (rest : List ℕ) → Reads (at + length (front blank bs)) (left blank bs) ps rest → Reads at bs ps rest
+unfolding front
+reads-blanks [] at ps rest r = subst (λ a. Reads a [] ps rest) (add-zero at) r
+reads-blanks (b ∷ bs) at ps rest r = reads-blanks-by b bs at ps rest (blank b) refl (reads-blanks bs (at + 1) ps rest) r
+
 judged-before : (p : Placed) (r : Tokens) → judged (before p r) ≡ judged r
 judged-before p (all ps) = refl
 judged-before p (stray q) = refl
@@ -55,31 +73,43 @@ unfolding scan
 scan-first at [] o s h e = absurd (omega arith)
 scan-first at (b ∷ bs) o s h e = cond-false (blank b) _ _ s ∙ ap (took at (λ n. scan (at + 1) n bs)) e
 
+found : (bytes : List ℕ) (t : Terminal) → first bytes ≡ Some t → (more : List ℕ) × Begins bytes t more
+found [] t f = let z : _≡_ {A = ℕ} 0 1 = cc in absurd (omega arith)
+found (b ∷ bs) t f = first-sound b bs t f
+
+halting : (bytes : List ℕ) → Stops blank bytes → 0 < length bytes → first bytes ≡ None → Stuck bytes
+halting [] s h e = absurd (omega arith)
+halting (b ∷ bs) s h e = stuck s (λ t more g. let f = first-complete (b ∷ bs) t more g in let z : _≡_ {A = ℕ} 0 1 = cc in omega arith)
+
+-- behind the blanks, at `from`, there is a byte
 module _ (text : List ℕ) (at from : ℕ) (past : at ≤ from) (inside : from < length text) (same : scan at 0 (drop at text) ≡ scan from 0 (drop from text)) (stop : Stops blank (drop from text)) where
   left-some : 0 < length (drop from text)
   left-some = simp length-drop (omega arith)
 
-  first-some : (b : ℕ) (bs : List ℕ) (t : Terminal) → drop from text ≡ b ∷ bs → first (b ∷ bs) ≡ Some t → (more : List ℕ) × Begins (drop from text) t more
-  first-some b bs t e f = let s = first-sound b bs t f in (s .0, subst (λ l. Begins l t (s .0)) (sym e) (s .1))
-
-  found : (bytes : List ℕ) → drop from text ≡ bytes → (t : Terminal) → first bytes ≡ Some t → (more : List ℕ) × Begins (drop from text) t more
-  found [] e t f = let z : _≡_ {A = ℕ} 0 1 = cc in absurd (omega arith)
-  found (b ∷ bs) e t f = first-some b bs t e f
-
-  onward-token : (t : Terminal) (more : List ℕ) → Begins (drop from text) t more → Onward text at (placed from (Some t))
-  onward-token t more g =
+  -- the token's bytes end where the rest of the text begins
+  standing : (t : Terminal) → first (drop from text) ≡ Some t → Begins (drop from text) t (drop (from + length (spelling t)) text)
+  standing t e =
+      let g = found (drop from text) t e in
       let n = length (spelling t) in
+      let rest : g .0 ≡ drop (from + n) text = sym (drop-at (spelling t) (g .0) n refl) ∙ ap (drop n) (sym (g .1 .written)) ∙ drop-drop n from text in
+      subst (Begins (drop from text) t) rest (g .1)
+
+  onward-token : (t : Terminal) → Begins (drop from text) t (drop (from + length (spelling t)) text) → Onward text at (placed from (Some t))
+  onward-token t g =
       let p = spelled t (g .formed) in
       let k = ap length (g .written) in
-      let m = length-append (spelling t) more in
+      let m = length-append (spelling t) (drop (from + length (spelling t)) text) in
       let d = length-drop from text in
-      let rest : more ≡ drop (from + n) text = sym (drop-at (spelling t) more n refl) ∙ ap (drop n) (sym (g .written)) ∙ drop-drop n from text in
-      (omega arith, omega arith,
-       ap judged (same ∙ scan-item (drop from text) from t more g) ∙ judged-before _ _ ∙ ap (λ l. judged (scan (from + n) 0 l)) rest)
+      (omega arith, omega arith, ap judged (same ∙ scan-item (drop from text) from t _ g) ∙ judged-before _ _)
 
   onward-first : (o : Option Terminal) → first (drop from text) ≡ o → Onward text at (placed from o)
   onward-first None e = ap judged (same ∙ scan-first from (drop from text) None stop left-some e)
-  onward-first (Some t) e = let s = found (drop from text) refl t e in onward-token t (s .0) (s .1)
+  onward-first (Some t) e = onward-token t (standing t e)
+
+  stands-first : (skip : (ps : List Placed) (rest : List ℕ) → Reads from (drop from text) ps rest → Reads at (drop at text) ps rest)
+      → (o : Option Terminal) → first (drop from text) ≡ o → Stands text at (placed from o)
+  stands-first skip None e = (skip [] (drop from text) here, halting (drop from text) stop left-some e)
+  stands-first skip (Some t) e = skip _ _ (item (standing t e) here)
 
 module _ (text : List ℕ) (at : ℕ) where
   from : ℕ
@@ -93,18 +123,35 @@ module _ (text : List ℕ) (at : ℕ) where
   unfolding from
   same-scan = scan-blanks (drop at text) at ∙ ap (scan from 0) left-is
 
+  stopped : Stops blank (drop from text)
+  stopped = subst (Stops blank) left-is (split blank (drop at text) .stopping)
+
+  skipped : (ps : List Placed) (rest : List ℕ) → Reads from (drop from text) ps rest → Reads at (drop at text) ps rest
+  unfolding from
+  skipped ps rest r = reads-blanks (drop at text) at ps rest (subst (λ l. Reads from l ps rest) (sym left-is) r)
+
+  ended : length text ≤ from → drop from text ≡ []
+  ended h = drop-all from text h
+
   pub onward : Onward text at (next text at)
   unfolding from scan
   onward =
       ⊎-elim
-      (λ h. subst (Onward text at) (sym (next-placed text at from refl h))
-        (onward-first text at from (omega arith) h same-scan (subst (Stops blank) left-is (split blank (drop at text) .stopping)) (first (drop from text)) refl))
-      (λ h. subst (Onward text at) (sym (next-end text at from refl h)) (ap judged (same-scan ∙ ended h)))
+      (λ h. subst (Onward text at) (sym (next-placed text at from refl h)) (onward-first text at from (omega arith) h same-scan stopped (first (drop from text)) refl))
+      (λ h. subst (Onward text at) (sym (next-end text at from refl h)) (ap judged (same-scan ∙ ap (scan from 0) (ended h))))
       (cases-lt from (length text))
-    where
-      ended : length text ≤ from → scan from 0 (drop from text) ≡ all []
-      ended h = ap (scan from 0) (drop-all from text h)
+
+  pub stands : Stands text at (next text at)
+  unfolding from
+  stands =
+      ⊎-elim
+      (λ h. subst (Stands text at) (sym (next-placed text at from refl h)) (stands-first text at from (omega arith) h same-scan stopped skipped (first (drop from text)) refl))
+      (λ h. subst (Stands text at) (sym (next-end text at from refl h)) (skipped [] [] (subst (λ l. Reads from l [] []) (sym (ended h)) here)))
+      (cases-lt from (length text))
 
 -- the same, of an answer that is known to be the next
 pub onward-by : (text : List ℕ) (at : ℕ) (x : Next) → x ≡ next text at → Onward text at x
 onward-by text at x e = subst (Onward text at) (sym e) (onward text at)
+
+pub stands-by : (text : List ℕ) (at : ℕ) (x : Next) → x ≡ next text at → Stands text at x
+stands-by text at x e = subst (Stands text at) (sym e) (stands text at)

@@ -13,6 +13,7 @@ use Rattle.lexer.specs.declared.byte.Run.the-variants.{Quoted}
 use Rattle.lexer.specs.Byte.{blank, digit, identifying, goesOn}
 use Rattle.lexer.specs.Keyword.{word, keywordOf}
 use Rattle.lexer.specs.Token.{Terminal, identifier, integer, field, string, keyword, symbol, spelling}
+use Rattle.lexer.specs.Lexing.{Next}
 use Rattle.lexer.specs.Tokens.{Placed, Tokens, tokens}
 
 -- one or more characters of identifiers
@@ -72,6 +73,12 @@ pub data Reads : ℕ → List ℕ → List Placed → List ℕ → Type 0 where
 -- the first byte is no blank and begins no token
 pub data Stuck : List ℕ → Type 0 where
   stuck : {b : ℕ} {bytes : List ℕ} → blank b ≡ false → ((t : Terminal) (more : List ℕ) → Begins (b ∷ bytes) t more → ⊥) → Stuck (b ∷ bytes)
+
+-- from `at` on there are blanks, and then this token, the text's end, or a byte that no token has
+abbrev pub Stands : List ℕ → ℕ → Next → Type 0
+Stands text at (Next.token t from to) = Reads at (drop at text) (record { token = t; place = from } ∷ []) (drop to text)
+Stands text at Next.end = Reads at (drop at text) [] []
+Stands text at (Next.stray p) = Reads at (drop at text) [] (drop p text) × Stuck (drop p text)
 
 pub record Law : Type 0 where
   -- tokens and blanks, written one after another, are the text again
