@@ -16,7 +16,7 @@ use Rattle.lexer.specs.Byte.{blank, goesOn}
 use Rattle.lexer.specs.Token.{Terminal, spelling}
 use Rattle.lexer.specs.Lexing.{front, first, placed, next, Next}
 use Rattle.lexer.specs.Tokens.{Placed, Tokens, all, stray, before, took, scan, tokens, judged}
-use Rattle.lexer.specs.Law.{Stops, Begins, Reads, here, gap, item, Stuck, stuck, Stands}
+use Rattle.lexer.specs.Law.{Stops, Begins, Reads, here, gap, item, Stuck, stuck, Stands, Inside}
 use Rattle.lexer.proofs.Front.{front-passes, front-stops, front-none}
 use Rattle.lexer.proofs.Placing.{next-end, next-placed, next-past}
 use Rattle.lexer.proofs.Runs.{left, split}
@@ -24,10 +24,17 @@ use Rattle.lexer.proofs.Sound.{first-sound}
 use Rattle.lexer.proofs.Complete.{first-complete}
 use Rattle.lexer.proofs.Reading.{scan-item, spelled}
 
+-- the scan of what is left says the same as the scan from `at` on
 abbrev pub Onward : List ℕ → ℕ → Next → Type 0
-Onward text at (Next.token t from to) = (at < to) × (to ≤ length text) × (judged (scan at 0 (drop at text)) ≡ judged (scan to 0 (drop to text)))
+Onward text at (Next.token t from to) = judged (scan at 0 (drop at text)) ≡ judged (scan to 0 (drop to text))
 Onward text at Next.end = judged (scan at 0 (drop at text)) ≡ None
 Onward text at (Next.stray p) = judged (scan at 0 (drop at text)) ≡ Some p
+
+-- all that is said of the next token
+pub record Known (text : List ℕ) (at : ℕ) (x : Next) : Type 0 where
+  pub onward : Onward text at x
+  pub inside : Inside (length text) at x
+  pub stands : Stands text at x
 
 blanks-by : (b : ℕ) (bs : List ℕ) (at : ℕ) (x : Bool) → blank b ≡ x
     → scan (at + 1) 0 bs ≡ scan (at + 1 + length (front blank bs)) 0 (left blank bs)
@@ -94,22 +101,25 @@ module _ (text : List ℕ) (at from : ℕ) (past : at ≤ from) (inside : from <
       let rest : g .0 ≡ drop (from + n) text = sym (drop-at (spelling t) (g .0) n refl) ∙ ap (drop n) (sym (g .1 .written)) ∙ drop-drop n from text in
       subst (Begins (drop from text) t) rest (g .1)
 
-  onward-token : (t : Terminal) → Begins (drop from text) t (drop (from + length (spelling t)) text) → Onward text at (placed from (Some t))
-  onward-token t g =
+  inside-token : (t : Terminal) → Begins (drop from text) t (drop (from + length (spelling t)) text) → Inside (length text) at (placed from (Some t))
+  inside-token t g =
       let p = spelled t (g .formed) in
       let k = ap length (g .written) in
       let m = length-append (spelling t) (drop (from + length (spelling t)) text) in
       let d = length-drop from text in
-      (omega arith, omega arith, ap judged (same ∙ scan-item (drop from text) from t _ g) ∙ judged-before _ _)
+      (omega arith, omega arith, omega arith)
 
-  onward-first : (o : Option Terminal) → first (drop from text) ≡ o → Onward text at (placed from o)
-  onward-first None e = ap judged (same ∙ scan-first from (drop from text) None stop left-some e)
-  onward-first (Some t) e = onward-token t (standing t e)
-
-  stands-first : (skip : (ps : List Placed) (rest : List ℕ) → Reads from (drop from text) ps rest → Reads at (drop at text) ps rest)
-      → (o : Option Terminal) → first (drop from text) ≡ o → Stands text at (placed from o)
-  stands-first skip None e = (skip [] (drop from text) here, halting (drop from text) stop left-some e)
-  stands-first skip (Some t) e = skip _ _ (item (standing t e) here)
+  known-first : (skip : (ps : List Placed) (rest : List ℕ) → Reads from (drop from text) ps rest → Reads at (drop at text) ps rest)
+      → (o : Option Terminal) → first (drop from text) ≡ o → Known text at (placed from o)
+  known-first skip None e =
+      record { onward = ap judged (same ∙ scan-first from (drop from text) None stop left-some e);
+               inside = (past, inside);
+               stands = (skip [] (drop from text) here, halting (drop from text) stop left-some e) }
+  known-first skip (Some t) e =
+      let g = standing t e in
+      record { onward = ap judged (same ∙ scan-item (drop from text) from t _ g) ∙ judged-before _ _;
+               inside = inside-token t g;
+               stands = skip _ _ (item g here) }
 
 module _ (text : List ℕ) (at : ℕ) where
   from : ℕ
@@ -133,25 +143,15 @@ module _ (text : List ℕ) (at : ℕ) where
   ended : length text ≤ from → drop from text ≡ []
   ended h = drop-all from text h
 
-  pub onward : Onward text at (next text at)
+  known : Known text at (next text at)
   unfolding from scan
-  onward =
+  known =
       ⊎-elim
-      (λ h. subst (Onward text at) (sym (next-placed text at from refl h)) (onward-first text at from (omega arith) h same-scan stopped (first (drop from text)) refl))
-      (λ h. subst (Onward text at) (sym (next-end text at from refl h)) (ap judged (same-scan ∙ ap (scan from 0) (ended h))))
+      (λ h. subst (Known text at) (sym (next-placed text at from refl h)) (known-first text at from (omega arith) h same-scan stopped skipped (first (drop from text)) refl))
+      (λ h. subst (Known text at) (sym (next-end text at from refl h))
+        (record { onward = ap judged (same-scan ∙ ap (scan from 0) (ended h)); inside = tt; stands = skipped [] [] (subst (λ l. Reads from l [] []) (sym (ended h)) here) }))
       (cases-lt from (length text))
 
-  pub stands : Stands text at (next text at)
-  unfolding from
-  stands =
-      ⊎-elim
-      (λ h. subst (Stands text at) (sym (next-placed text at from refl h)) (stands-first text at from (omega arith) h same-scan stopped skipped (first (drop from text)) refl))
-      (λ h. subst (Stands text at) (sym (next-end text at from refl h)) (skipped [] [] (subst (λ l. Reads from l [] []) (sym (ended h)) here)))
-      (cases-lt from (length text))
-
--- the same, of an answer that is known to be the next
-pub onward-by : (text : List ℕ) (at : ℕ) (x : Next) → x ≡ next text at → Onward text at x
-onward-by text at x e = subst (Onward text at) (sym e) (onward text at)
-
-pub stands-by : (text : List ℕ) (at : ℕ) (x : Next) → x ≡ next text at → Stands text at x
-stands-by text at x e = subst (Stands text at) (sym e) (stands text at)
+-- of an answer that is the next
+pub known-by : (text : List ℕ) (at : ℕ) (x : Next) → x ≡ next text at → Known text at x
+known-by text at x e = subst (Known text at) (sym e) (known text at)

@@ -80,6 +80,12 @@ Stands text at (Next.token t from to) = Reads at (drop at text) (record { token 
 Stands text at Next.end = Reads at (drop at text) [] []
 Stands text at (Next.stray p) = Reads at (drop at text) [] (drop p text) × Stuck (drop p text)
 
+-- what comes from `at` on lies in a text of n bytes, and a token has a byte at least
+abbrev pub Inside : ℕ → ℕ → Next → Type 0
+Inside n at (Next.token t from to) = (at ≤ from) × (from < to) × (to ≤ n)
+Inside n at Next.end = Unit {0}
+Inside n at (Next.stray p) = (at ≤ p) × (p < n)
+
 pub record Law : Type 0 where
   -- tokens and blanks, written one after another, are the text again
   pub written : (text : List ℕ) (ps : List Placed) → tokens text ≡ Tokens.all ps → Reads 0 text ps []

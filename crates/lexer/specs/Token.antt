@@ -1,6 +1,7 @@
 -- Tokens as the grammar sees them, and how each is written. Assumes nothing.
 use mathlib.Core.List.{List, [], _∷_, _++_}
 use Prim.Native.Nat.{ℕ}
+use lib.Chars.{codes}
 use Rattle.lexer.specs.declared.token.Keyword.{Keyword}
 use Rattle.lexer.specs.declared.token.Symbol.{Symbol}
 use Rattle.lexer.specs.declared.token.Symbol.the-variants.{Dot, Comma, Semicolon, OpenParen, CloseParen, Equals, Less}
@@ -43,3 +44,11 @@ terminal (case.Field w) = field (w .now)
 terminal (case.Str w) = string (w .now)
 terminal (case.Keyword k) = keyword k
 terminal (case.Symbol s) = symbol s
+
+abbrev pub kindName : Terminal → List ℕ
+kindName (identifier w) = codes "identifier"
+kindName (integer w) = codes "integer"
+kindName (field w) = codes "field"
+kindName (string w) = codes "string"
+kindName (keyword k) = codes "keyword"
+kindName (symbol s) = codes "symbol"

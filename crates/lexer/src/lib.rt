@@ -10,7 +10,7 @@ ghost use Rattle.lexer.specs.declared.token.Keyword.the-variants.{Class};
 ghost use Rattle.lexer.specs.Keyword.{keywords, keywordOf};
 ghost use Rattle.lexer.specs.Token.{terminal};
 ghost use Rattle.lexer.specs.Tokens.{tokens, judged, refused};
-ghost use Rattle.lexer.specs.Law.{Stands, Law};
+ghost use Rattle.lexer.specs.Law.{Stands, Inside, Law};
 ghost use Rattle.lexer.specs.Lexing.{front, worded, named, wordOf, integerOf, minusOf, fieldOf, stringOf, first, placed, lexed, begins, starts, answer, next};
 
 pub mod byte;
@@ -201,6 +201,7 @@ fn token_at<'a>(text: &'a [u8], from: usize) -> Result<Lexed<'a>, Stray>
 pub fn next_token<'a>(text: &'a [u8], at: usize) -> Result<Option<Lexed<'a>>, Stray>
     ensures the_next { λ r. ⌜ answer r ≡ next (now (text .entry)) at ⌝ }
     ensures stands_behind_blanks { λ r. ⌜ Stands (now (text .entry)) at (answer r) ⌝ }
+    ensures inside_the_text { λ r. ⌜ Inside (length (now (text .entry))) at (answer r) ⌝ }
 {
     if at >= text.len() {
         return Ok(None);

@@ -1,6 +1,7 @@
 // The tokens of a text.
 ghost use mathlib.Core.Path.{_≡_};
 ghost use Rattle.lexer.specs.Keyword.{word};
+ghost use Rattle.lexer.specs.Token.{terminal, kindName};
 
 #[derive(Clone, Copy)]
 pub enum Keyword {
@@ -61,6 +62,21 @@ pub enum Token<'a> {
     Str(&'a [u8]),
     Keyword(Keyword),
     Symbol(Symbol),
+}
+
+impl<'a> Token<'a> {
+    pub fn kind(self) -> &'static str
+        ensures named_by_its_case { λ r. ⌜ now r ≡ kindName (terminal (self .entry)) ⌝ }
+    {
+        match self {
+            Token::Identifier(_) => "identifier",
+            Token::Integer(_) => "integer",
+            Token::Field(_) => "field",
+            Token::Str(_) => "string",
+            Token::Keyword(_) => "keyword",
+            Token::Symbol(_) => "symbol",
+        }
+    }
 }
 
 // A token with its place: the bytes `from` up to `to` of the text.
