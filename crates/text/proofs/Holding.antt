@@ -1,5 +1,5 @@
 -- A slice parted into what a stack holds and what stands beyond, and how the parts move. Assumes nothing.
-use mathlib.Core.Path.{_≡_, refl, sym, ap, _∙_}
+use mathlib.Core.Path.{_≡_, sym, ap, _∙_}
 use mathlib.Core.List.{List, [], _∷_, _++_}
 use mathlib.Core.Logic.{inl, inr}
 use Prim.Native.Nat.{ℕ, _+_, _-_, _<_, _≤_, min}
@@ -9,11 +9,11 @@ use Rattle.std.specs.Options.{Cases}
 use Rattle.std.specs.Finite.{nth}
 use Rattle.std.specs.declared.option.Option.{Option}
 use Rattle.std.specs.declared.option.Option.the-variants.{Some, None}
-use Rattle.std.proofs.shelf.Lists.{take-append-drop, take-more, take-more-set, take-take, take-at, take-all, drop-all, drop-more, drop-drop, drop-set-lt, length-take-le, length-push, same-from-push, nil-from-length}
+use Rattle.std.proofs.shelf.Lists.{take-append-drop, take-more, take-more-set, take-take, take-at, take-all, drop-all, drop-more, drop-drop, drop-set-lt, length-take-le, length-push, same-from-push}
 use Rattle.std.proofs.shelf.Ways.{leb-tells}
 use Rattle.std.proofs.shelf.Maps.{nth-getD, nth-past}
 use Rattle.text.specs.declared.stack.Stack.{Stack}
-use Rattle.text.specs.Held.{held, beyond, room, front}
+use Rattle.text.specs.Held.{held, beyond, front}
 
 module _ {T : Type 0} where
   -- nothing of the slice is lost
@@ -70,14 +70,17 @@ module _ {T : Type 0} where
       ∙ ap (λ (y : T). front xs ++ y ∷ []) (sym e)
 
   -- what was pushed last is popped first, and the items below it are left
-  pub pop-after-push : (r : Option T) (was left : List T) (x : T) → Cases r ((was ++ x ∷ [] ≡ []) × (left ≡ [])) (λ y. was ++ x ∷ [] ≡ left ++ y ∷ []) → (r ≡ Some x) × (left ≡ was)
-  pop-after-push None was left x p = absurd (omega (arith, ap length (p .0), length-push was x))
-  pop-after-push (Some y) was left x p = let q = same-from-push was left x y p in (ap Some (sym (q .1)), sym (q .0))
+  pub pop-after-push : (r : Option T) (xs was left : List T) (x : T) → xs ≡ was ++ x ∷ [] → Cases r ((xs ≡ []) × (left ≡ [])) (λ y. xs ≡ left ++ y ∷ []) → (r ≡ Some x) × (left ≡ was)
+  pop-after-push None xs was left x e p = absurd (omega (arith, ap length (sym e ∙ p .0), length-push was x))
+  pop-after-push (Some y) xs was left x e p =
+      let q = same-from-push was left x y (sym e ∙ p) in
+      (ap Some (sym (q .1)), sym (q .0))
 
-  pub top-after-push : (r : Option T) (was : List T) (x : T) → Cases r (was ++ x ∷ [] ≡ []) (λ y. was ++ x ∷ [] ≡ front (was ++ x ∷ []) ++ y ∷ []) → r ≡ Some x
-  top-after-push None was x p = absurd (omega (arith, ap length p, length-push was x))
-  top-after-push (Some y) was x p = ap Some (sym (same-from-push was (front (was ++ x ∷ [])) x y p .1))
+  pub top-after-push : (r : Option T) (xs was : List T) (x : T) → xs ≡ was ++ x ∷ [] → Cases r (xs ≡ []) (λ y. xs ≡ front xs ++ y ∷ []) → r ≡ Some x
+  top-after-push None xs was x e p = absurd (omega (arith, ap length (sym e ∙ p), length-push was x))
+  top-after-push (Some y) xs was x e p = ap Some (sym (same-from-push was (front xs) x y (sym e ∙ p) .1))
 
+  -- an item by its place, as an option
   pub get-is-nth : (r : Option T) (xs : List T) (i : ℕ) → Cases r (length xs ≤ i) (λ x. (i < length xs) × ((d : T) → getD xs i d ≡ x)) → r ≡ nth xs i
   get-is-nth None xs i p = sym (nth-past xs i p)
   get-is-nth (Some x) xs i p = sym (nth-getD xs i x (p .0) ∙ ap Some (p .1 x))

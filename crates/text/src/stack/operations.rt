@@ -1,7 +1,7 @@
 // What a stack does; the slice stays its lender's, and no item of it is lost.
 ghost use mathlib.Core.Path.{_≡_};
 ghost use mathlib.Core.List.{[], _∷_, _++_};
-ghost use Prim.Native.Nat.{ℕ, _+_, _-_, _<_, _≤_};
+ghost use Prim.Native.Nat.{_+_, _<_, _≤_};
 ghost use lib.Dec.{eqb};
 ghost use lib.ListN.{length, take, drop, getD};
 ghost use denote.Ref.{name};
@@ -87,6 +87,7 @@ impl<'a, T: Copy> Stack<'a, T> {
         ensures lender { λ _. ⌜ name (now (self .exit) .items) ≡ name (now (self .entry) .items) ⌝ }
         ensures room { λ _. ⌜ room (now (self .exit)) ≡ room (now (self .entry)) ⌝ }
         ensures full { λ r. ⌜ Cases r (λ _. length (held (now (self .entry))) < room (now (self .entry))) (λ y. (y ≡ x) × (length (held (now (self .entry))) ≡ room (now (self .entry)))) ⌝ }
+        ensures count { λ r. ⌜ Cases r (λ _. length (held (now (self .exit))) ≡ length (held (now (self .entry))) + 1) (λ _. length (held (now (self .exit))) ≡ length (held (now (self .entry)))) ⌝ }
         ensures held { λ r. ⌜ Cases r (λ _. held (now (self .exit)) ≡ held (now (self .entry)) ++ x ∷ []) (λ _. held (now (self .exit)) ≡ held (now (self .entry))) ⌝ }
         ensures beyond { λ r. ⌜ Cases r (λ _. beyond (now (self .exit)) ≡ drop 1 (beyond (now (self .entry)))) (λ _. beyond (now (self .exit)) ≡ beyond (now (self .entry))) ⌝ }
     {
@@ -102,6 +103,7 @@ impl<'a, T: Copy> Stack<'a, T> {
     pub fn pop(&mut self) -> Option<T>
         ensures lender { λ _. ⌜ name (now (self .exit) .items) ≡ name (now (self .entry) .items) ⌝ }
         ensures room { λ _. ⌜ room (now (self .exit)) ≡ room (now (self .entry)) ⌝ }
+        ensures count { λ r. ⌜ BySome r ((length (held (now (self .entry))) ≡ 0) × (length (held (now (self .exit))) ≡ 0)) (λ _. length (held (now (self .entry))) ≡ length (held (now (self .exit))) + 1) ⌝ }
         ensures held { λ r. ⌜ BySome r ((held (now (self .entry)) ≡ []) × (held (now (self .exit)) ≡ [])) (λ x. held (now (self .entry)) ≡ held (now (self .exit)) ++ x ∷ []) ⌝ }
         ensures beyond { λ r. ⌜ BySome r (beyond (now (self .exit)) ≡ beyond (now (self .entry))) (λ x. beyond (now (self .exit)) ≡ x ∷ beyond (now (self .entry))) ⌝ }
     {
@@ -116,6 +118,7 @@ impl<'a, T: Copy> Stack<'a, T> {
     pub fn set_top(&mut self, x: T) -> bool
         ensures lender { λ _. ⌜ name (now (self .exit) .items) ≡ name (now (self .entry) .items) ⌝ }
         ensures room { λ _. ⌜ room (now (self .exit)) ≡ room (now (self .entry)) ⌝ }
+        ensures count { λ _. ⌜ length (held (now (self .exit))) ≡ length (held (now (self .entry))) ⌝ }
         ensures held { λ r. ⌜ When r ((0 < length (held (now (self .entry)))) × (held (now (self .exit)) ≡ front (held (now (self .entry))) ++ x ∷ [])) ((held (now (self .entry)) ≡ []) × (held (now (self .exit)) ≡ [])) ⌝ }
         ensures beyond { λ _. ⌜ beyond (now (self .exit)) ≡ beyond (now (self .entry)) ⌝ }
     {
