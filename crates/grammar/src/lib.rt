@@ -1,0 +1,3 @@
+// The grammar of rules and classes, and its law.
+
+pub fn one() -> u8 { 1 }
