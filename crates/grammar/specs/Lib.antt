@@ -1,1 +1,5 @@
 pub mod Tree
+pub mod Grammar
+pub mod Role
+pub mod Machine
+pub mod Law

@@ -20,6 +20,7 @@ mutual
     new : A → List ℕ → Args A → Expr A
     instanceOf : A → Expr A → List ℕ → Expr A
     invoke : A → Expr A → List ℕ → Args A → Expr A
+
   -- arguments, the last one outermost
   pub data Args (A : Type 0) : Type 0 where
     none : Args A
@@ -34,3 +35,24 @@ pub record Class (A : Type 0) : Type 0 where
   pub name : List ℕ
   pub parent : List ℕ
   pub methods : List (Method A)
+
+-- a text is a rule, which is one expression, or a class
+pub data Text (A : Type 0) : Type 0 where
+  rule : Expr A → Text A
+  class : Class A → Text A
+
+-- trees without notes
+abbrev pub Bare : Type 0
+Bare = Expr (Unit {0})
+
+abbrev pub BareArgs : Type 0
+BareArgs = Args (Unit {0})
+
+abbrev pub BareMethod : Type 0
+BareMethod = Method (Unit {0})
+
+abbrev pub BareClass : Type 0
+BareClass = Class (Unit {0})
+
+abbrev pub BareText : Type 0
+BareText = Text (Unit {0})

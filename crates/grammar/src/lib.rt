@@ -1,3 +1,5 @@
 // The grammar of rules and classes, and its law.
 
-pub fn one() -> u8 { 1 }
+pub fn one() -> u8 {
+    1
+}
