@@ -3,3 +3,4 @@ pub mod Grammar
 pub mod Role
 pub mod Machine
 pub mod Law
+pub mod Following

@@ -1,0 +1,201 @@
+-- Every state can be closed: the tree that closes it begins with what was read.
+use mathlib.Core.Path.{_≡_, refl, sym, ap, _∙_}
+use mathlib.Core.List.{List, [], _∷_, _++_}
+use Prim.Native.Nat.{ℕ, _≤_}
+use native.Mathlib.Omega.{arith}
+use Rattle.lexer.specs.Token.{Terminal, identifier, integer, keyword, symbol}
+use Rattle.lexer.specs.declared.token.Keyword.the-variants as word
+use Rattle.lexer.specs.declared.token.Symbol.the-variants as sign
+use Rattle.grammar.specs.Tree.{Expr, Args, Class, Text, Bare, BareArgs, BareClass, BareText}
+use Rattle.grammar.specs.Grammar.{Kind, toks, nameToks, methodsToks, classToks, tokensOf, level, Formed, FormedMethods, FormedText, operand, test, item}
+use Rattle.grammar.specs.Machine.{Target, write, Callee, call, Bracket, Context, room, Place, State, withMethod}
+use Rattle.grammar.proofs.Tokens.{leadNames, names-last, methods-last, formed-last}
+use Rattle.grammar.proofs.Reading.{calleeToks, targetToken, bracketToks, headToks, readK, readAt, read, FineCallee, FineBracket, FineK, FineAt, Fine, roomy}
+
+-- the expression 0 and the name a
+abbrev digits : List ℕ
+digits = 48 ∷ []
+
+abbrev nought : Bare
+nought = Expr.int tt digits
+
+abbrev letter : List ℕ
+letter = 97 ∷ []
+
+-- the expression that closes the bracket, and the tokens that do
+abbrev filled : Bracket → Bare → Bare
+filled Bracket.condition e = Expr.ifThenElse tt e nought nought
+filled (Bracket.consequent c) e = Expr.ifThenElse tt c e nought
+filled (Bracket.alternative c d) e = Expr.ifThenElse tt c d e
+filled Bracket.guard e = Expr.whileDo tt e nought
+filled (Bracket.loop c) e = Expr.whileDo tt c e
+filled (Bracket.argument f xs) e = call f (Args.more xs e)
+
+abbrev closeBracket : Bracket → List Terminal → List Terminal
+closeBracket Bracket.condition r = keyword word.Then ∷ integer digits ∷ keyword word.Else ∷ integer digits ∷ keyword word.End ∷ r
+closeBracket (Bracket.consequent c) r = keyword word.Else ∷ integer digits ∷ keyword word.End ∷ r
+closeBracket (Bracket.alternative c d) r = keyword word.End ∷ r
+closeBracket Bracket.guard r = keyword word.Do ∷ integer digits ∷ keyword word.End ∷ r
+closeBracket (Bracket.loop c) r = keyword word.End ∷ r
+closeBracket (Bracket.argument f xs) r = symbol sign.CloseParen ∷ r
+
+filled-toks : (b : Bracket) (e : Bare) (r : List Terminal) → toks (filled b e) r ≡ bracketToks b (toks e (closeBracket b r))
+filled-toks Bracket.condition e r = refl
+filled-toks (Bracket.consequent c) e r = refl
+filled-toks (Bracket.alternative c d) e r = refl
+filled-toks Bracket.guard e r = refl
+filled-toks (Bracket.loop c) e r = refl
+filled-toks (Bracket.argument (Callee.method f m) xs) e r = refl
+filled-toks (Bracket.argument (Callee.new c) xs) e r = refl
+
+filled-formed : (b : Bracket) (e : Bare) → FineBracket b → Formed e → (level (filled b e) ≤ operand) × Formed (filled b e)
+filled-formed Bracket.condition e h g = (omega arith, (g, tt, tt))
+filled-formed (Bracket.consequent c) e h g = (omega arith, (h, g, tt))
+filled-formed (Bracket.alternative c d) e h g = (omega arith, (h .0, h .1, g))
+filled-formed Bracket.guard e h g = (omega arith, (g, tt))
+filled-formed (Bracket.loop c) e h g = (omega arith, (h, g))
+filled-formed (Bracket.argument (Callee.method f m) xs) e h g = (omega arith, (h .0 .0, h .0 .1, (h .1, g)))
+filled-formed (Bracket.argument (Callee.new c) xs) e h g = (omega arith, (h .1, g))
+
+-- the text with the expression in its context, closed, and the tokens that close it
+abbrev plug : Bare → Context → BareText
+plug e Context.whole = Text.rule e
+plug e (Context.body c m ps) = Text.class (withMethod c m ps e)
+plug e (Context.value t k) = plug (write t e) k
+plug e (Context.rest d k) = plug (Expr.seq tt d e) k
+plug e (Context.within b k) = plug (filled b e) k
+
+abbrev closeK : Context → List Terminal
+closeK Context.whole = []
+closeK (Context.body c m ps) = keyword word.End ∷ keyword word.End ∷ []
+closeK (Context.value t k) = closeK k
+closeK (Context.rest d k) = closeK k
+closeK (Context.within b k) = closeBracket b (closeK k)
+
+-- the class with one more method, written out
+added-toks : (c : BareClass) (m : List ℕ) (ps : List (List ℕ)) (e : Bare) → classToks (withMethod c m ps e) [] ≡ readK (Context.body c m ps) (toks e (keyword word.End ∷ keyword word.End ∷ []))
+added-toks c m ps e = ap (λ z. keyword word.Class ∷ identifier (c .name) ∷ symbol sign.Less ∷ identifier (c .parent) ∷ keyword word.Begin ∷ z) (methods-last (c .methods) _ (keyword word.End ∷ []))
+
+plug-toks : (e : Bare) (k : Context) → tokensOf (plug e k) ≡ readK k (toks e (closeK k))
+plug-toks e Context.whole = refl
+plug-toks e (Context.body c m ps) = added-toks c m ps e
+plug-toks e (Context.value (Target.local x) k) = plug-toks (Expr.setLocal tt x e) k
+plug-toks e (Context.value (Target.field x) k) = plug-toks (Expr.setField tt x e) k
+plug-toks e (Context.rest d k) = plug-toks (Expr.seq tt d e) k
+plug-toks e (Context.within b k) = plug-toks (filled b e) k ∙ ap (readK k) (filled-toks b e (closeK k))
+
+plug-formed : (κ : Kind) (e : Bare) (k : Context) → Formed e → level e ≤ room k → FineK κ k → FormedText κ (plug e k)
+plug-formed κ e Context.whole fe h fk = (fk, fe)
+plug-formed κ e (Context.body c m ps) fe h fk = (fk .0, formed-last (c .methods) _ (fk .1) fe)
+plug-formed κ e (Context.value (Target.local x) k) fe h fk = plug-formed κ (Expr.setLocal tt x e) k (h, fe) (roomy k) fk
+plug-formed κ e (Context.value (Target.field x) k) fe h fk = plug-formed κ (Expr.setField tt x e) k (h, fe) (roomy k) fk
+plug-formed κ e (Context.rest d k) fe h fk = plug-formed κ (Expr.seq tt d e) k (fk .0, fk .1, fe) (fk .2) (fk .3)
+plug-formed κ e (Context.within b k) fe h fk =
+    let g = roomy k in let f = filled-formed b e (fk .0) fe in let l = f .0 in plug-formed κ (filled b e) k (f .1) (omega arith) (fk .1)
+
+-- the same outside the bodies of a class
+abbrev closedAt : Place → BareClass
+closedAt Place.start = record { name = letter; parent = letter; methods = [] }
+closedAt Place.class = record { name = letter; parent = letter; methods = [] }
+closedAt (Place.className c) = record { name = c; parent = letter; methods = [] }
+closedAt (Place.less c) = record { name = c; parent = letter; methods = [] }
+closedAt (Place.parent c p) = record { name = c; parent = p; methods = [] }
+closedAt (Place.members c) = c
+closedAt (Place.def c) = withMethod c letter [] nought
+closedAt (Place.methodName c m) = withMethod c m [] nought
+closedAt (Place.open′ c m) = withMethod c m [] nought
+closedAt (Place.parameter c m ps p) = withMethod c m (ps ++ (p ∷ [])) nought
+closedAt (Place.comma c m ps) = withMethod c m (ps ++ (letter ∷ [])) nought
+closedAt (Place.end c) = c
+
+abbrev closeAt : Place → List Terminal
+closeAt Place.start = keyword word.Class ∷ identifier letter ∷ symbol sign.Less ∷ identifier letter ∷ keyword word.Begin ∷ keyword word.End ∷ []
+closeAt Place.class = identifier letter ∷ symbol sign.Less ∷ identifier letter ∷ keyword word.Begin ∷ keyword word.End ∷ []
+closeAt (Place.className c) = symbol sign.Less ∷ identifier letter ∷ keyword word.Begin ∷ keyword word.End ∷ []
+closeAt (Place.less c) = identifier letter ∷ keyword word.Begin ∷ keyword word.End ∷ []
+closeAt (Place.parent c p) = keyword word.Begin ∷ keyword word.End ∷ []
+closeAt (Place.members c) = keyword word.End ∷ []
+closeAt (Place.def c) = identifier letter ∷ symbol sign.OpenParen ∷ symbol sign.CloseParen ∷ integer digits ∷ keyword word.End ∷ keyword word.End ∷ []
+closeAt (Place.methodName c m) = symbol sign.OpenParen ∷ symbol sign.CloseParen ∷ integer digits ∷ keyword word.End ∷ keyword word.End ∷ []
+closeAt (Place.open′ c m) = symbol sign.CloseParen ∷ integer digits ∷ keyword word.End ∷ keyword word.End ∷ []
+closeAt (Place.parameter c m ps p) = symbol sign.CloseParen ∷ integer digits ∷ keyword word.End ∷ keyword word.End ∷ []
+closeAt (Place.comma c m ps) = identifier letter ∷ symbol sign.CloseParen ∷ integer digits ∷ keyword word.End ∷ keyword word.End ∷ []
+closeAt (Place.end c) = []
+
+last-toks : (c : BareClass) (m : List ℕ) (ps : List (List ℕ)) (p : List ℕ) (r : List Terminal) → readAt (Place.open′ c m) (nameToks (ps ++ (p ∷ [])) r) ≡ readAt (Place.parameter c m ps p) r
+last-toks c m ps p r = ap (readAt (Place.open′ c m)) (names-last ps p r)
+
+closedAt-toks : (p : Place) → classToks (closedAt p) [] ≡ readAt p (closeAt p)
+closedAt-toks Place.start = refl
+closedAt-toks Place.class = refl
+closedAt-toks (Place.className c) = refl
+closedAt-toks (Place.less c) = refl
+closedAt-toks (Place.parent c p) = refl
+closedAt-toks (Place.members c) = refl
+closedAt-toks (Place.def c) = added-toks c letter [] nought
+closedAt-toks (Place.methodName c m) = added-toks c m [] nought
+closedAt-toks (Place.open′ c m) = added-toks c m [] nought
+closedAt-toks (Place.parameter c m ps p) = added-toks c m (ps ++ (p ∷ [])) nought ∙ last-toks c m ps p _
+closedAt-toks (Place.comma c m ps) = added-toks c m (ps ++ (letter ∷ [])) nought ∙ last-toks c m ps letter _
+closedAt-toks (Place.end c) = refl
+
+closedAt-formed : (p : Place) → FineAt p → FormedMethods (closedAt p .methods)
+closedAt-formed Place.start h = tt
+closedAt-formed Place.class h = tt
+closedAt-formed (Place.className c) h = tt
+closedAt-formed (Place.less c) h = tt
+closedAt-formed (Place.parent c p) h = tt
+closedAt-formed (Place.members c) h = h
+closedAt-formed (Place.def c) h = formed-last (c .methods) _ h tt
+closedAt-formed (Place.methodName c m) h = formed-last (c .methods) _ h tt
+closedAt-formed (Place.open′ c m) h = formed-last (c .methods) _ h tt
+closedAt-formed (Place.parameter c m ps p) h = formed-last (c .methods) _ h tt
+closedAt-formed (Place.comma c m ps) h = formed-last (c .methods) _ h tt
+closedAt-formed (Place.end c) h = h
+
+abbrev pub closed : State → BareText
+closed (State.want k) = plug nought k
+closed (State.have e k) = plug e k
+closed (State.dotted e k) = plug (Expr.invoke tt e letter Args.none) k
+closed (State.tested e k) = plug (Expr.instanceOf tt e letter) k
+closed (State.newed k) = plug (Expr.new tt letter Args.none) k
+closed (State.named f k) = plug (call f Args.none) k
+closed (State.opened f k) = plug (call f Args.none) k
+closed (State.define p) = Text.class (closedAt p)
+
+abbrev pub closing : State → List Terminal
+closing (State.want k) = integer digits ∷ closeK k
+closing (State.have e k) = closeK k
+closing (State.dotted e k) = identifier letter ∷ symbol sign.OpenParen ∷ symbol sign.CloseParen ∷ closeK k
+closing (State.tested e k) = identifier letter ∷ closeK k
+closing (State.newed k) = identifier letter ∷ symbol sign.OpenParen ∷ symbol sign.CloseParen ∷ closeK k
+closing (State.named f k) = symbol sign.OpenParen ∷ symbol sign.CloseParen ∷ closeK k
+closing (State.opened f k) = symbol sign.CloseParen ∷ closeK k
+closing (State.define p) = closeAt p
+
+pub closed-toks : (s : State) → tokensOf (closed s) ≡ read s (closing s)
+closed-toks (State.want k) = plug-toks nought k
+closed-toks (State.have e k) = plug-toks e k
+closed-toks (State.dotted e k) = plug-toks (Expr.invoke tt e letter Args.none) k
+closed-toks (State.tested e k) = plug-toks (Expr.instanceOf tt e letter) k
+closed-toks (State.newed k) = plug-toks (Expr.new tt letter Args.none) k
+closed-toks (State.named (Callee.method e m) k) = plug-toks (Expr.invoke tt e m Args.none) k
+closed-toks (State.named (Callee.new c) k) = plug-toks (Expr.new tt c Args.none) k
+closed-toks (State.opened (Callee.method e m) k) = plug-toks (Expr.invoke tt e m Args.none) k
+closed-toks (State.opened (Callee.new c) k) = plug-toks (Expr.new tt c Args.none) k
+closed-toks (State.define p) = closedAt-toks p
+
+module _ (κ : Kind) where
+  called-formed : (f : Callee) (k : Context) → FineCallee f → FineK κ k → FormedText κ (plug (call f Args.none) k)
+  called-formed (Callee.method e m) k ff fk = let g = roomy k in plug-formed κ (Expr.invoke tt e m Args.none) k (ff .0, ff .1, tt) (omega arith) fk
+  called-formed (Callee.new c) k ff fk = plug-formed κ (Expr.new tt c Args.none) k tt (omega arith) fk
+
+  pub closed-formed : (s : State) → Fine κ s → FormedText κ (closed s)
+  closed-formed (State.want k) h = plug-formed κ nought k tt (omega arith) h
+  closed-formed (State.have e k) h = let g = roomy k in plug-formed κ e k (h .1) (omega arith) (h .2)
+  closed-formed (State.dotted e k) h = called-formed (Callee.method e letter) k (h .0, h .1) (h .2)
+  closed-formed (State.tested e k) h = let g = roomy k in plug-formed κ (Expr.instanceOf tt e letter) k (h .0, h .1) (omega arith) (h .2)
+  closed-formed (State.newed k) h = called-formed (Callee.new letter) k tt h
+  closed-formed (State.named f k) h = called-formed f k (h .0) (h .1)
+  closed-formed (State.opened f k) h = called-formed f k (h .0) (h .1)
+  closed-formed (State.define p) h = (h .0, closedAt-formed p (h .1))

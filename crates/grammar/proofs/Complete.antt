@@ -1,0 +1,323 @@
+-- A tree's tokens, wherever a tree is wanted, lead to the state that has the tree.
+use mathlib.Core.Path.{_≡_, refl, sym, ap, _∙_}
+use mathlib.Core.Bool.{Bool, true, false, cond}
+use mathlib.Core.Option.{Option, none, some}
+use mathlib.Core.List.{List, [], _∷_, _++_, append-nil, append-assoc}
+use Prim.Native.Nat.{ℕ, _≤_, _<_}
+use native.Mathlib.Omega.{arith}
+use lib.Dec.{leb, eqb}
+use borrow.Author.Tests.{le-leb, lt-leb}
+use Rattle.lexer.specs.Token.{Terminal, identifier, integer, keyword, symbol}
+use Rattle.lexer.specs.declared.token.Keyword.the-variants as word
+use Rattle.lexer.specs.declared.token.Symbol.the-variants as sign
+use Rattle.grammar.specs.Tree.{Expr, Args, Method, Class, Text, Bare, BareArgs, BareMethod, BareClass, BareText}
+use Rattle.grammar.specs.Grammar.{Kind, toks, argToks, leadToks, nameToks, methodToks, methodsToks, tokensOf, level, Formed, FormedArgs, FormedMethods, FormedText, operand, test, item, sequence}
+use Rattle.grammar.specs.Role.{Role, Joint, Stop, role, code, on}
+use Rattle.grammar.specs.Machine.{Target, write, targetOf, Callee, call, Bracket, Context, room, Place, State, Outcome, withMethod, next, assign, takes, step, went, run, initial, parse}
+use Rattle.grammar.specs.Following.{IfJoint, AtJoint, Leaves, Calm, Further, Last, Unclosed}
+use Rattle.grammar.proofs.Tokens.{stopToken, token, token-role, same-stop}
+use Rattle.grammar.proofs.Reading.{roomy}
+
+pub goes : (s m : State) (t : Terminal) (r : List Terminal) → step s t ≡ some m → run (t ∷ r) s ≡ run r m
+unfolding run
+goes s m t r q = ap (went (run r) (t ∷ r)) q
+
+pub halts-at : (s : State) (t : Terminal) (r : List Terminal) → step s t ≡ none → run (t ∷ r) s ≡ Outcome.refused (t ∷ r)
+unfolding run
+halts-at s t r q = ap (went (run r) (t ∷ r)) q
+
+-- two states that take the next token alike run alike
+alike : (s m : State) (t : Terminal) (r : List Terminal) → takes s (role t) ≡ takes m (role t) → run (t ∷ r) s ≡ run (t ∷ r) m
+unfolding run
+alike s m t r q = ap (went (run r) (t ∷ r)) q
+
+dot-leaves : (e : Bare) (k : Context) → operand < level e → takes (State.have e k) (Role.joint Joint.dot) ≡ none
+dot-leaves e k h = ap (λ b. cond b (some (State.dotted e k)) none) (lt-leb (level e) operand h)
+
+instanceOf-leaves : (e : Bare) (k : Context) → test < level e → takes (State.have e k) (Role.joint Joint.instanceOf) ≡ none
+instanceOf-leaves e k h = ap (λ b. cond b (some (State.tested e k)) none) (lt-leb (level e) test h)
+
+equals-leaves : (e : Bare) (k : Context) → targetOf e ≡ none → takes (State.have e k) (Role.joint Joint.equals) ≡ none
+equals-leaves e k h = ap (λ t. assign t k) h
+
+-- an item ends, and what waited for it is joined with it
+value-takes : (t : Target) (e : Bare) (k : Context) (ρ : Role) → IfJoint (Leaves e) ρ → takes (State.have e (Context.value t k)) ρ ≡ takes (State.have (write t e) k) ρ
+value-takes t e k (Role.name x) h = refl
+value-takes t e k (Role.leaf l) h = refl
+value-takes t e k (Role.opening o) h = refl
+value-takes t e k (Role.joint Joint.semicolon) h = refl
+value-takes (Target.local x) e k (Role.joint Joint.equals) h = equals-leaves e _ h
+value-takes (Target.field x) e k (Role.joint Joint.equals) h = equals-leaves e _ h
+value-takes (Target.local x) e k (Role.joint Joint.dot) h = dot-leaves e _ h
+value-takes (Target.field x) e k (Role.joint Joint.dot) h = dot-leaves e _ h
+value-takes (Target.local x) e k (Role.joint Joint.instanceOf) h = instanceOf-leaves e _ h
+value-takes (Target.field x) e k (Role.joint Joint.instanceOf) h = instanceOf-leaves e _ h
+value-takes t e k (Role.stop s) h = refl
+
+pub value-ends : (t : Target) (e : Bare) (k : Context) (r : List Terminal) → Calm e r → run r (State.have e (Context.value t k)) ≡ run r (State.have (write t e) k)
+unfolding run
+value-ends t e k [] h = refl
+value-ends t e k (x ∷ r) h = alike (State.have e (Context.value t k)) (State.have (write t e) k) x r (value-takes t e k (role x) h)
+
+rest-takes : (d e : Bare) (k : Context) (ρ : Role) → IfJoint (Leaves e) ρ → IfJoint Further ρ → takes (State.have e (Context.rest d k)) ρ ≡ takes (State.have (Expr.seq tt d e) k) ρ
+rest-takes d e k (Role.name x) h g = refl
+rest-takes d e k (Role.leaf l) h g = refl
+rest-takes d e k (Role.opening o) h g = refl
+rest-takes d e k (Role.joint Joint.semicolon) h g = absurd g
+rest-takes d e k (Role.joint Joint.equals) h g = equals-leaves e _ h
+rest-takes d e k (Role.joint Joint.dot) h g = dot-leaves e _ h
+rest-takes d e k (Role.joint Joint.instanceOf) h g = instanceOf-leaves e _ h
+rest-takes d e k (Role.stop s) h g = refl
+
+pub rest-ends : (d e : Bare) (k : Context) (r : List Terminal) → Calm e r → Last r → run r (State.have e (Context.rest d k)) ≡ run r (State.have (Expr.seq tt d e) k)
+unfolding run
+rest-ends d e k [] h g = refl
+rest-ends d e k (x ∷ r) h g = alike (State.have e (Context.rest d k)) (State.have (Expr.seq tt d e) k) x r (rest-takes d e k (role x) h g)
+
+-- the first argument begins where no `)` stands
+argument-takes : (f : Callee) (k : Context) (ρ : Role) → (token ρ ≡ symbol sign.CloseParen → ⊥) → takes (State.opened f k) ρ ≡ takes (State.want (Context.within (Bracket.argument f Args.none) k)) ρ
+argument-takes f k (Role.name x) h = refl
+argument-takes f k (Role.leaf l) h = refl
+argument-takes f k (Role.opening o) h = refl
+argument-takes f k (Role.joint j) h = refl
+argument-takes f k (Role.stop s) h = go (eqb (code Stop.close) (code s)) refl
+  where
+    go : (b : Bool) → eqb (code Stop.close) (code s) ≡ b → cond b (some (State.have (call f Args.none) k)) none ≡ none
+    go true q = absurd (h (sym (ap stopToken (same-stop Stop.close s q))))
+    go false q = refl
+
+pub argument-begins : (f : Callee) (k : Context) (r : List Terminal) → Unclosed r → run r (State.opened f k) ≡ run r (State.want (Context.within (Bracket.argument f Args.none) k))
+unfolding run
+argument-begins f k [] h = refl
+argument-begins f k (t ∷ r) h = alike (State.opened f k) (State.want (Context.within (Bracket.argument f Args.none) k)) t r (argument-takes f k (role t) (λ q. h (sym (token-role t) ∙ q)))
+
+pub next-is : (e : Bare) (k : Context) → sequence ≤ room k → next e k ≡ State.want (Context.rest e k)
+next-is e Context.whole h = refl
+next-is e (Context.body c m ps) h = refl
+next-is e (Context.value t k) h = absurd (omega arith)
+next-is e (Context.rest d k) h = refl
+next-is e (Context.within b k) h = refl
+
+pub semicolon-goes : (e : Bare) (k : Context) (r : List Terminal) → sequence ≤ room k → run (symbol sign.Semicolon ∷ r) (State.have e k) ≡ run r (State.want (Context.rest e k))
+semicolon-goes e k r h = goes (State.have e k) _ (symbol sign.Semicolon) r (ap some (next-is e k h))
+
+pub dot-goes : (e : Bare) (k : Context) (r : List Terminal) → level e ≤ operand → run (symbol sign.Dot ∷ r) (State.have e k) ≡ run r (State.dotted e k)
+dot-goes e k r h = goes (State.have e k) _ (symbol sign.Dot) r (ap (λ b. cond b (some (State.dotted e k)) none) (le-leb (level e) operand h))
+
+pub instanceOf-goes : (e : Bare) (k : Context) (r : List Terminal) → level e ≤ test → run (keyword word.InstanceOf ∷ r) (State.have e k) ≡ run r (State.tested e k)
+instanceOf-goes e k r h = goes (State.have e k) _ (keyword word.InstanceOf) r (ap (λ b. cond b (some (State.tested e k)) none) (le-leb (level e) test h))
+
+-- what may stand behind the whole of the expression
+abbrev Free : Bare → List Terminal → Type 0
+Free (Expr.int a w) r = Unit {0}
+Free (Expr.nil a) r = Unit {0}
+Free (Expr.self a) r = Unit {0}
+Free (Expr.string a w) r = Unit {0}
+Free (Expr.local a x) r = Unit {0}
+Free (Expr.setLocal a x e) r = Calm e r × Free e r
+Free (Expr.field a x) r = Unit {0}
+Free (Expr.setField a x e) r = Calm e r × Free e r
+Free (Expr.ifThenElse a c d e) r = Unit {0}
+Free (Expr.whileDo a c d) r = Unit {0}
+Free (Expr.seq a c d) r = Calm d r × Last r × Free d r
+Free (Expr.new a c xs) r = Unit {0}
+Free (Expr.instanceOf a e c) r = Unit {0}
+Free (Expr.invoke a e m xs) r = Unit {0}
+
+-- a joint that is no semicolon
+abbrev Barred : Joint → Type 0
+Barred Joint.semicolon = Unit {0}
+Barred Joint.equals = ⊥
+Barred Joint.dot = ⊥
+Barred Joint.instanceOf = ⊥
+
+if-joint : (P Q : Joint → Type 0) → ((j : Joint) → P j → Q j) → (ρ : Role) → IfJoint P ρ → IfJoint Q ρ
+if-joint P Q f (Role.name x) h = tt
+if-joint P Q f (Role.leaf l) h = tt
+if-joint P Q f (Role.opening o) h = tt
+if-joint P Q f (Role.joint j) h = f j h
+if-joint P Q f (Role.stop s) h = tt
+
+at-joint : (P Q : Joint → Type 0) → ((j : Joint) → P j → Q j) → (r : List Terminal) → AtJoint P r → AtJoint Q r
+at-joint P Q f [] h = tt
+at-joint P Q f (t ∷ r) h = if-joint P Q f (role t) h
+
+barred-leaves : (e : Bare) (j : Joint) → Barred j → Leaves e j
+barred-leaves e Joint.semicolon h = tt
+barred-leaves e Joint.equals h = absurd h
+barred-leaves e Joint.dot h = absurd h
+barred-leaves e Joint.instanceOf h = absurd h
+
+-- an item's followers are free where no joint but a semicolon is
+free-item : (e : Bare) (r : List Terminal) → level e ≤ item → Formed e → AtJoint Barred r → Free e r
+free-item (Expr.int a w) r l fe h = tt
+free-item (Expr.nil a) r l fe h = tt
+free-item (Expr.self a) r l fe h = tt
+free-item (Expr.string a w) r l fe h = tt
+free-item (Expr.local a x) r l fe h = tt
+free-item (Expr.setLocal a x e) r l fe h = (at-joint Barred (Leaves e) (barred-leaves e) r h, free-item e r (fe .0) (fe .1) h)
+free-item (Expr.field a x) r l fe h = tt
+free-item (Expr.setField a x e) r l fe h = (at-joint Barred (Leaves e) (barred-leaves e) r h, free-item e r (fe .0) (fe .1) h)
+free-item (Expr.ifThenElse a c d e) r l fe h = tt
+free-item (Expr.whileDo a c d) r l fe h = tt
+free-item (Expr.seq a c d) r l fe h = absurd (omega arith)
+free-item (Expr.new a c xs) r l fe h = tt
+free-item (Expr.instanceOf a e c) r l fe h = tt
+free-item (Expr.invoke a e m xs) r l fe h = tt
+
+-- every expression is free where no joint follows
+free-alone : (e : Bare) (r : List Terminal) → AtJoint (λ j. ⊥) r → Free e r
+free-alone (Expr.int a w) r h = tt
+free-alone (Expr.nil a) r h = tt
+free-alone (Expr.self a) r h = tt
+free-alone (Expr.string a w) r h = tt
+free-alone (Expr.local a x) r h = tt
+free-alone (Expr.setLocal a x e) r h = (at-joint _ (Leaves e) (λ j z. absurd z) r h, free-alone e r h)
+free-alone (Expr.field a x) r h = tt
+free-alone (Expr.setField a x e) r h = (at-joint _ (Leaves e) (λ j z. absurd z) r h, free-alone e r h)
+free-alone (Expr.ifThenElse a c d e) r h = tt
+free-alone (Expr.whileDo a c d) r h = tt
+free-alone (Expr.seq a c d) r h = (at-joint _ (Leaves d) (λ j z. absurd z) r h, at-joint _ Further (λ j z. absurd z) r h, free-alone d r h)
+free-alone (Expr.new a c xs) r h = tt
+free-alone (Expr.instanceOf a e c) r h = tt
+free-alone (Expr.invoke a e m xs) r h = tt
+
+-- a test is free always
+free-test : (e : Bare) (r : List Terminal) → level e ≤ test → Free e r
+free-test (Expr.int a w) r l = tt
+free-test (Expr.nil a) r l = tt
+free-test (Expr.self a) r l = tt
+free-test (Expr.string a w) r l = tt
+free-test (Expr.local a x) r l = tt
+free-test (Expr.setLocal a x e) r l = absurd (omega arith)
+free-test (Expr.field a x) r l = tt
+free-test (Expr.setField a x e) r l = absurd (omega arith)
+free-test (Expr.ifThenElse a c d e) r l = tt
+free-test (Expr.whileDo a c d) r l = tt
+free-test (Expr.seq a c d) r l = absurd (omega arith)
+free-test (Expr.new a c xs) r l = tt
+free-test (Expr.instanceOf a e c) r l = tt
+free-test (Expr.invoke a e m xs) r l = tt
+
+pub level-top : (e : Bare) → level e ≤ sequence
+level-top (Expr.int a w) = omega arith
+level-top (Expr.nil a) = omega arith
+level-top (Expr.self a) = omega arith
+level-top (Expr.string a w) = omega arith
+level-top (Expr.local a x) = omega arith
+level-top (Expr.setLocal a x e) = omega arith
+level-top (Expr.field a x) = omega arith
+level-top (Expr.setField a x e) = omega arith
+level-top (Expr.ifThenElse a c d e) = omega arith
+level-top (Expr.whileDo a c d) = omega arith
+level-top (Expr.seq a c d) = omega arith
+level-top (Expr.new a c xs) = omega arith
+level-top (Expr.instanceOf a e c) = omega arith
+level-top (Expr.invoke a e m xs) = omega arith
+
+-- no expression begins with `)`
+unclosed : (e : Bare) (r : List Terminal) → Unclosed (toks e r)
+unclosed (Expr.int a w) r = λ q. let z : _≡_ {A = ℕ} 0 1 = cc in omega arith
+unclosed (Expr.nil a) r = λ q. let z : _≡_ {A = ℕ} 0 1 = cc in omega arith
+unclosed (Expr.self a) r = λ q. let z : _≡_ {A = ℕ} 0 1 = cc in omega arith
+unclosed (Expr.string a w) r = λ q. let z : _≡_ {A = ℕ} 0 1 = cc in omega arith
+unclosed (Expr.local a x) r = λ q. let z : _≡_ {A = ℕ} 0 1 = cc in omega arith
+unclosed (Expr.setLocal a x e) r = λ q. let z : _≡_ {A = ℕ} 0 1 = cc in omega arith
+unclosed (Expr.field a x) r = λ q. let z : _≡_ {A = ℕ} 0 1 = cc in omega arith
+unclosed (Expr.setField a x e) r = λ q. let z : _≡_ {A = ℕ} 0 1 = cc in omega arith
+unclosed (Expr.ifThenElse a c d e) r = λ q. let z : _≡_ {A = ℕ} 0 1 = cc in omega arith
+unclosed (Expr.whileDo a c d) r = λ q. let z : _≡_ {A = ℕ} 0 1 = cc in omega arith
+unclosed (Expr.seq a c d) r = unclosed c _
+unclosed (Expr.new a c xs) r = λ q. let z : _≡_ {A = ℕ} 0 1 = cc in omega arith
+unclosed (Expr.instanceOf a e c) r = unclosed e _
+unclosed (Expr.invoke a e m xs) r = unclosed e _
+
+mutual
+  unfolding run
+
+  -- an expression's tokens lead from where it is wanted to where it was read
+  pub complete : (e : Bare) → Formed e → (k : Context) → level e ≤ room k → (r : List Terminal) → Free e r → run (toks e r) (State.want k) ≡ run r (State.have e k)
+  complete (Expr.int a w) fe k h r q = refl
+  complete (Expr.nil a) fe k h r q = refl
+  complete (Expr.self a) fe k h r q = refl
+  complete (Expr.string a w) fe k h r q = refl
+  complete (Expr.local a x) fe k h r q = refl
+  complete (Expr.setLocal a x e) fe k h r q = complete e (fe .1) (Context.value (Target.local x) k) (fe .0) r (q .1) ∙ value-ends (Target.local x) e k r (q .0)
+  complete (Expr.field a x) fe k h r q = refl
+  complete (Expr.setField a x e) fe k h r q = complete e (fe .1) (Context.value (Target.field x) k) (fe .0) r (q .1) ∙ value-ends (Target.field x) e k r (q .0)
+  complete (Expr.ifThenElse a c d e) fe k h r q =
+      complete c (fe .0) (Context.within Bracket.condition k) (level-top c) (keyword word.Then ∷ toks d (keyword word.Else ∷ toks e (keyword word.End ∷ r))) (free-alone c _ tt)
+      ∙ complete d (fe .1) (Context.within (Bracket.consequent c) k) (level-top d) (keyword word.Else ∷ toks e (keyword word.End ∷ r)) (free-alone d _ tt)
+      ∙ complete e (fe .2) (Context.within (Bracket.alternative c d) k) (level-top e) (keyword word.End ∷ r) (free-alone e _ tt)
+  complete (Expr.whileDo a c d) fe k h r q =
+      complete c (fe .0) (Context.within Bracket.guard k) (level-top c) (keyword word.Do ∷ toks d (keyword word.End ∷ r)) (free-alone c _ tt)
+      ∙ complete d (fe .1) (Context.within (Bracket.loop c) k) (level-top d) (keyword word.End ∷ r) (free-alone d _ tt)
+  complete (Expr.seq a c d) fe k h r q =
+      complete c (fe .1) k (omega (arith, fe .0)) (symbol sign.Semicolon ∷ toks d r) (free-item c _ (fe .0) (fe .1) tt)
+      ∙ semicolon-goes c k (toks d r) h
+      ∙ complete d (fe .2) (Context.rest c k) (level-top d) r (q .2)
+      ∙ rest-ends c d k r (q .0) (q .1)
+  complete (Expr.new a c xs) fe k h r q = argued xs fe (Callee.new c) k r
+  complete (Expr.instanceOf a e c) fe k h r q =
+      let g = roomy k in
+      complete e (fe .1) k (omega (arith, fe .0)) (keyword word.InstanceOf ∷ identifier c ∷ r) (free-test e _ (fe .0))
+      ∙ instanceOf-goes e k (identifier c ∷ r) (fe .0)
+  complete (Expr.invoke a e m xs) fe k h r q =
+      let g = roomy k in
+      complete e (fe .1) k (omega (arith, fe .0)) (symbol sign.Dot ∷ identifier m ∷ symbol sign.OpenParen ∷ argToks xs (symbol sign.CloseParen ∷ r)) (free-test e _ (omega (arith, fe .0)))
+      ∙ dot-goes e k (identifier m ∷ symbol sign.OpenParen ∷ argToks xs (symbol sign.CloseParen ∷ r)) (fe .0)
+      ∙ argued xs (fe .2) (Callee.method e m) k r
+
+  -- so do those of arguments
+  argued : (xs : BareArgs) → FormedArgs xs → (f : Callee) (k : Context) (r : List Terminal) → run (argToks xs (symbol sign.CloseParen ∷ r)) (State.opened f k) ≡ run r (State.have (call f xs) k)
+  argued Args.none fx f k r = refl
+  argued (Args.more xs e) fx f k r =
+      leading xs (fx .0) f k (toks e (symbol sign.CloseParen ∷ r)) (unclosed e _)
+      ∙ complete e (fx .1) (Context.within (Bracket.argument f xs) k) (level-top e) (symbol sign.CloseParen ∷ r) (free-alone e _ tt)
+
+  leading : (xs : BareArgs) → FormedArgs xs → (f : Callee) (k : Context) (r : List Terminal) → Unclosed r → run (leadToks xs r) (State.opened f k) ≡ run r (State.want (Context.within (Bracket.argument f xs) k))
+  leading Args.none fx f k r h = argument-begins f k r h
+  leading (Args.more xs e) fx f k r h =
+      leading xs (fx .0) f k (toks e (symbol sign.Comma ∷ r)) (unclosed e _)
+      ∙ complete e (fx .1) (Context.within (Bracket.argument f xs) k) (level-top e) (symbol sign.Comma ∷ r) (free-alone e _ tt)
+
+module _ (c : BareClass) (m : List ℕ) where
+  parameters-go : (p : List ℕ) (ps before : List (List ℕ)) (r : List Terminal) → run (nameToks (p ∷ ps) (symbol sign.CloseParen ∷ r)) (State.define (Place.comma c m before)) ≡ run r (State.want (Context.body c m (before ++ (p ∷ ps))))
+  unfolding run
+  parameters-go p [] before r = refl
+  parameters-go p (q ∷ ps) before r = parameters-go q ps (before ++ (p ∷ [])) r ∙ ap (λ z. run r (State.want (Context.body c m z))) (append-assoc before (p ∷ []) (q ∷ ps))
+
+  parameters-complete : (ps : List (List ℕ)) (r : List Terminal) → run (nameToks ps (symbol sign.CloseParen ∷ r)) (State.define (Place.open′ c m)) ≡ run r (State.want (Context.body c m ps))
+  unfolding run
+  parameters-complete [] r = refl
+  parameters-complete (p ∷ []) r = refl
+  parameters-complete (p ∷ q ∷ ps) r = parameters-go q ps (p ∷ []) r
+
+-- a class with these methods in place of its own
+abbrev withMethods : BareClass → List BareMethod → BareClass
+withMethods c ms = record { name = c .name; parent = c .parent; methods = ms }
+
+method-complete : (m : BareMethod) → Formed (m .body) → (c : BareClass) (r : List Terminal) → run (methodToks m r) (State.define (Place.members c)) ≡ run r (State.define (Place.members (withMethods c (c .methods ++ (m ∷ [])))))
+unfolding run
+method-complete m fm c r =
+    parameters-complete c (m .name) (m .parameters) (toks (m .body) (keyword word.End ∷ r))
+    ∙ complete (m .body) fm (Context.body c (m .name) (m .parameters)) (level-top (m .body)) (keyword word.End ∷ r) (free-alone (m .body) _ tt)
+
+methods-complete : (ms before : List BareMethod) → FormedMethods ms → (c : BareClass) (r : List Terminal) → run (methodsToks ms r) (State.define (Place.members (withMethods c before))) ≡ run r (State.define (Place.members (withMethods c (before ++ ms))))
+methods-complete [] before fm c r = ap (λ z. run r (State.define (Place.members (withMethods c z)))) (sym (append-nil before))
+methods-complete (m ∷ ms) before fm c r =
+    method-complete m (fm .0) (withMethods c before) (methodsToks ms r)
+    ∙ methods-complete ms (before ++ (m ∷ [])) (fm .1) c r
+    ∙ ap (λ z. run r (State.define (Place.members (withMethods c z)))) (append-assoc before (m ∷ []) ms)
+
+class-complete : (c : BareClass) → FormedMethods (c .methods) → parse Kind.class (tokensOf (Text.class c)) ≡ Outcome.accepted (Text.class c)
+unfolding run
+class-complete c fc = methods-complete (c .methods) [] fc c (keyword word.End ∷ [])
+
+rule-complete : (e : Bare) → Formed e → parse Kind.rule (tokensOf (Text.rule e)) ≡ Outcome.accepted (Text.rule e)
+unfolding run
+rule-complete e fe = complete e fe Context.whole (level-top e) [] (free-alone e [] tt)
+
+pub text-complete : (κ : Kind) (t : BareText) → FormedText κ t → parse κ (tokensOf t) ≡ Outcome.accepted t
+text-complete κ (Text.rule e) ft = ap (λ z. parse z (toks e [])) (ft .0) ∙ rule-complete e (ft .1)
+text-complete κ (Text.class c) ft = ap (λ z. parse z (tokensOf (Text.class c))) (ft .0) ∙ class-complete c (ft .1)

@@ -1,0 +1,5 @@
+pub mod Tokens
+pub mod Reading
+pub mod Closing
+pub mod Complete
+pub mod Whole
