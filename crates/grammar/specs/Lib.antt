@@ -4,3 +4,6 @@ pub mod Role
 pub mod Machine
 pub mod Law
 pub mod Following
+pub mod Notes
+pub mod Limits
+pub mod Measure
