@@ -3,3 +3,4 @@ pub mod Reading
 pub mod Closing
 pub mod Complete
 pub mod Whole
+pub mod Notes
