@@ -1,5 +1,5 @@
 -- A tree's tokens, wherever a tree is wanted, lead to the state that has the tree.
-use mathlib.Core.Path.{_≡_, refl, sym, ap, _∙_}
+use mathlib.Core.Path.{_≡_, refl, sym, ap, subst, _∙_}
 use mathlib.Core.Bool.{Bool, true, false, cond}
 use mathlib.Core.Option.{Option, none, some}
 use mathlib.Core.List.{List, [], _∷_, _++_, append-nil, append-assoc}
@@ -14,8 +14,8 @@ use Rattle.grammar.specs.Tree.{Expr, Args, Method, Class, Text, Bare, BareArgs
 use Rattle.grammar.specs.Grammar.{Kind, toks, argToks, leadToks, nameToks, methodToks, methodsToks, tokensOf, level, Formed, FormedArgs, FormedMethods, FormedText, operand, test, item, sequence}
 use Rattle.grammar.specs.Role.{Role, Joint, Stop, role, code, on}
 use Rattle.grammar.specs.Machine.{Target, write, targetOf, Callee, call, Bracket, Context, room, Place, State, Outcome, withMethod, next, assign, takes, step, went, run, initial, parse}
-use Rattle.grammar.specs.Following.{IfJoint, AtJoint, Leaves, Calm, Further, Last, Unclosed}
-use Rattle.grammar.proofs.Tokens.{stopToken, token, token-role, same-stop}
+use Rattle.grammar.specs.Following.{First, Calm, Last}
+use Rattle.grammar.proofs.Tokens.{jointToken, stopToken, token, token-role, same-stop}
 use Rattle.grammar.proofs.Reading.{roomy}
 
 pub goes : (s m : State) (t : Terminal) (r : List Terminal) → step s t ≡ some m → run (t ∷ r) s ≡ run r m
@@ -41,38 +41,49 @@ equals-leaves : (e : Bare) (k : Context) → targetOf e ≡ none → takes (Stat
 equals-leaves e k h = ap (λ t. assign t k) h
 
 -- an item ends, and what waited for it is joined with it
-value-takes : (t : Target) (e : Bare) (k : Context) (ρ : Role) → IfJoint (Leaves e) ρ → takes (State.have e (Context.value t k)) ρ ≡ takes (State.have (write t e) k) ρ
-value-takes t e k (Role.name x) h = refl
-value-takes t e k (Role.leaf l) h = refl
-value-takes t e k (Role.opening o) h = refl
-value-takes t e k (Role.joint Joint.semicolon) h = refl
-value-takes (Target.local x) e k (Role.joint Joint.equals) h = equals-leaves e _ h
-value-takes (Target.field x) e k (Role.joint Joint.equals) h = equals-leaves e _ h
-value-takes (Target.local x) e k (Role.joint Joint.dot) h = dot-leaves e _ h
-value-takes (Target.field x) e k (Role.joint Joint.dot) h = dot-leaves e _ h
-value-takes (Target.local x) e k (Role.joint Joint.instanceOf) h = instanceOf-leaves e _ h
-value-takes (Target.field x) e k (Role.joint Joint.instanceOf) h = instanceOf-leaves e _ h
-value-takes t e k (Role.stop s) h = refl
+value-takes : (t : Target) (e : Bare) (k : Context) (ρ : Role) (r : List Terminal) → Calm e (token ρ ∷ r) → takes (State.have e (Context.value t k)) ρ ≡ takes (State.have (write t e) k) ρ
+value-takes t e k (Role.name x) r h = refl
+value-takes t e k (Role.leaf l) r h = refl
+value-takes t e k (Role.opening o) r h = refl
+value-takes t e k (Role.joint Joint.semicolon) r h = refl
+value-takes (Target.local x) e k (Role.joint Joint.equals) r h = equals-leaves e _ (h .equals refl)
+value-takes (Target.field x) e k (Role.joint Joint.equals) r h = equals-leaves e _ (h .equals refl)
+value-takes (Target.local x) e k (Role.joint Joint.dot) r h = dot-leaves e _ (h .dot refl)
+value-takes (Target.field x) e k (Role.joint Joint.dot) r h = dot-leaves e _ (h .dot refl)
+value-takes (Target.local x) e k (Role.joint Joint.instanceOf) r h = instanceOf-leaves e _ (h .instanceOf refl)
+value-takes (Target.field x) e k (Role.joint Joint.instanceOf) r h = instanceOf-leaves e _ (h .instanceOf refl)
+value-takes t e k (Role.stop s) r h = refl
 
 pub value-ends : (t : Target) (e : Bare) (k : Context) (r : List Terminal) → Calm e r → run r (State.have e (Context.value t k)) ≡ run r (State.have (write t e) k)
 unfolding run
 value-ends t e k [] h = refl
-value-ends t e k (x ∷ r) h = alike (State.have e (Context.value t k)) (State.have (write t e) k) x r (value-takes t e k (role x) h)
+value-ends t e k (x ∷ r) h =
+    alike (State.have e (Context.value t k)) (State.have (write t e) k) x r (value-takes t e k (role x) r (subst (λ z. Calm e (z ∷ r)) (sym (token-role x)) h))
 
-rest-takes : (d e : Bare) (k : Context) (ρ : Role) → IfJoint (Leaves e) ρ → IfJoint Further ρ → takes (State.have e (Context.rest d k)) ρ ≡ takes (State.have (Expr.seq tt d e) k) ρ
-rest-takes d e k (Role.name x) h g = refl
-rest-takes d e k (Role.leaf l) h g = refl
-rest-takes d e k (Role.opening o) h g = refl
-rest-takes d e k (Role.joint Joint.semicolon) h g = absurd g
-rest-takes d e k (Role.joint Joint.equals) h g = equals-leaves e _ h
-rest-takes d e k (Role.joint Joint.dot) h g = dot-leaves e _ h
-rest-takes d e k (Role.joint Joint.instanceOf) h g = instanceOf-leaves e _ h
-rest-takes d e k (Role.stop s) h g = refl
+rest-takes : (d e : Bare) (k : Context) (ρ : Role) (r : List Terminal) → Calm e (token ρ ∷ r) → Last (token ρ ∷ r) → takes (State.have e (Context.rest d k)) ρ ≡ takes (State.have (Expr.seq tt d e) k) ρ
+rest-takes d e k (Role.name x) r h g = refl
+rest-takes d e k (Role.leaf l) r h g = refl
+rest-takes d e k (Role.opening o) r h g = refl
+rest-takes d e k (Role.joint Joint.semicolon) r h g = absurd (g refl)
+rest-takes d e k (Role.joint Joint.equals) r h g = equals-leaves e _ (h .equals refl)
+rest-takes d e k (Role.joint Joint.dot) r h g = dot-leaves e _ (h .dot refl)
+rest-takes d e k (Role.joint Joint.instanceOf) r h g = instanceOf-leaves e _ (h .instanceOf refl)
+rest-takes d e k (Role.stop s) r h g = refl
 
 pub rest-ends : (d e : Bare) (k : Context) (r : List Terminal) → Calm e r → Last r → run r (State.have e (Context.rest d k)) ≡ run r (State.have (Expr.seq tt d e) k)
 unfolding run
 rest-ends d e k [] h g = refl
-rest-ends d e k (x ∷ r) h g = alike (State.have e (Context.rest d k)) (State.have (Expr.seq tt d e) k) x r (rest-takes d e k (role x) h g)
+rest-ends d e k (x ∷ r) h g =
+    alike (State.have e (Context.rest d k)) (State.have (Expr.seq tt d e) k) x r
+    (rest-takes d e k (role x) r (subst (λ z. Calm e (z ∷ r)) (sym (token-role x)) h) (subst (λ z. Last (z ∷ r)) (sym (token-role x)) g))
+
+-- a token that is not the one wanted
+pub other : {A : Type 0} (a s : Stop) (x y : A) → (stopToken s ≡ stopToken a → ⊥) → on a s x y ≡ y
+other a s x y h = go (eqb (code a) (code s)) refl
+  where
+    go : (b : Bool) → eqb (code a) (code s) ≡ b → cond b x y ≡ y
+    go true q = absurd (h (sym (ap stopToken (same-stop a s q))))
+    go false q = refl
 
 -- the first argument begins where no `)` stands
 argument-takes : (f : Callee) (k : Context) (ρ : Role) → (token ρ ≡ symbol sign.CloseParen → ⊥) → takes (State.opened f k) ρ ≡ takes (State.want (Context.within (Bracket.argument f Args.none) k)) ρ
@@ -80,13 +91,9 @@ argument-takes f k (Role.name x) h = refl
 argument-takes f k (Role.leaf l) h = refl
 argument-takes f k (Role.opening o) h = refl
 argument-takes f k (Role.joint j) h = refl
-argument-takes f k (Role.stop s) h = go (eqb (code Stop.close) (code s)) refl
-  where
-    go : (b : Bool) → eqb (code Stop.close) (code s) ≡ b → cond b (some (State.have (call f Args.none) k)) none ≡ none
-    go true q = absurd (h (sym (ap stopToken (same-stop Stop.close s q))))
-    go false q = refl
+argument-takes f k (Role.stop s) h = other Stop.close s _ none h
 
-pub argument-begins : (f : Callee) (k : Context) (r : List Terminal) → Unclosed r → run r (State.opened f k) ≡ run r (State.want (Context.within (Bracket.argument f Args.none) k))
+pub argument-begins : (f : Callee) (k : Context) (r : List Terminal) → (First (symbol sign.CloseParen) r → ⊥) → run r (State.opened f k) ≡ run r (State.want (Context.within (Bracket.argument f Args.none) k))
 unfolding run
 argument-begins f k [] h = refl
 argument-begins f k (t ∷ r) h = alike (State.opened f k) (State.want (Context.within (Bracket.argument f Args.none) k)) t r (argument-takes f k (role t) (λ q. h (sym (token-role t) ∙ q)))
@@ -124,40 +131,62 @@ Free (Expr.new a c xs) r = Unit {0}
 Free (Expr.instanceOf a e c) r = Unit {0}
 Free (Expr.invoke a e m xs) r = Unit {0}
 
--- a joint that is no semicolon
-abbrev Barred : Joint → Type 0
-Barred Joint.semicolon = Unit {0}
-Barred Joint.equals = ⊥
-Barred Joint.dot = ⊥
-Barred Joint.instanceOf = ⊥
+abbrev IfJoint : (Joint → Type 0) → Role → Type 0
+IfJoint P (Role.name x) = Unit {0}
+IfJoint P (Role.leaf l) = Unit {0}
+IfJoint P (Role.opening o) = Unit {0}
+IfJoint P (Role.joint j) = P j
+IfJoint P (Role.stop s) = Unit {0}
 
-if-joint : (P Q : Joint → Type 0) → ((j : Joint) → P j → Q j) → (ρ : Role) → IfJoint P ρ → IfJoint Q ρ
-if-joint P Q f (Role.name x) h = tt
-if-joint P Q f (Role.leaf l) h = tt
-if-joint P Q f (Role.opening o) h = tt
-if-joint P Q f (Role.joint j) h = f j h
-if-joint P Q f (Role.stop s) h = tt
+-- if the tokens begin with a joint, it has P
+abbrev AtJoint : (Joint → Type 0) → List Terminal → Type 0
+AtJoint P [] = Unit {0}
+AtJoint P (t ∷ r) = IfJoint P (role t)
 
-at-joint : (P Q : Joint → Type 0) → ((j : Joint) → P j → Q j) → (r : List Terminal) → AtJoint P r → AtJoint Q r
-at-joint P Q f [] h = tt
-at-joint P Q f (t ∷ r) h = if-joint P Q f (role t) h
+at-first : (P : Joint → Type 0) (j : Joint) (r : List Terminal) → AtJoint P r → First (jointToken j) r → P j
+at-first P j [] h q = absurd q
+at-first P j (t ∷ r) h q = joint-has j (subst (λ z. IfJoint P (role z)) q h)
+  where
+    joint-has : (i : Joint) → IfJoint P (role (jointToken i)) → P i
+    joint-has Joint.semicolon g = g
+    joint-has Joint.equals g = g
+    joint-has Joint.dot g = g
+    joint-has Joint.instanceOf g = g
 
-barred-leaves : (e : Bare) (j : Joint) → Barred j → Leaves e j
-barred-leaves e Joint.semicolon h = tt
-barred-leaves e Joint.equals h = absurd h
-barred-leaves e Joint.dot h = absurd h
-barred-leaves e Joint.instanceOf h = absurd h
+-- at most a semicolon
+abbrev Semicolon : Joint → Type 0
+Semicolon Joint.semicolon = Unit {0}
+Semicolon Joint.equals = ⊥
+Semicolon Joint.dot = ⊥
+Semicolon Joint.instanceOf = ⊥
+
+abbrev Never : Joint → Type 0
+Never j = ⊥
+
+calm-item : (e : Bare) (r : List Terminal) → AtJoint Semicolon r → Calm e r
+calm-item e r h = record {
+  equals = λ q. absurd (at-first Semicolon Joint.equals r h q);
+  dot = λ q. absurd (at-first Semicolon Joint.dot r h q);
+  instanceOf = λ q. absurd (at-first Semicolon Joint.instanceOf r h q);
+}
+
+calm-alone : (e : Bare) (r : List Terminal) → AtJoint Never r → Calm e r
+calm-alone e r h = record {
+  equals = λ q. absurd (at-first Never Joint.equals r h q);
+  dot = λ q. absurd (at-first Never Joint.dot r h q);
+  instanceOf = λ q. absurd (at-first Never Joint.instanceOf r h q);
+}
 
 -- an item's followers are free where no joint but a semicolon is
-free-item : (e : Bare) (r : List Terminal) → level e ≤ item → Formed e → AtJoint Barred r → Free e r
+free-item : (e : Bare) (r : List Terminal) → level e ≤ item → Formed e → AtJoint Semicolon r → Free e r
 free-item (Expr.int a w) r l fe h = tt
 free-item (Expr.nil a) r l fe h = tt
 free-item (Expr.self a) r l fe h = tt
 free-item (Expr.string a w) r l fe h = tt
 free-item (Expr.local a x) r l fe h = tt
-free-item (Expr.setLocal a x e) r l fe h = (at-joint Barred (Leaves e) (barred-leaves e) r h, free-item e r (fe .0) (fe .1) h)
+free-item (Expr.setLocal a x e) r l fe h = (calm-item e r h, free-item e r (fe .0) (fe .1) h)
 free-item (Expr.field a x) r l fe h = tt
-free-item (Expr.setField a x e) r l fe h = (at-joint Barred (Leaves e) (barred-leaves e) r h, free-item e r (fe .0) (fe .1) h)
+free-item (Expr.setField a x e) r l fe h = (calm-item e r h, free-item e r (fe .0) (fe .1) h)
 free-item (Expr.ifThenElse a c d e) r l fe h = tt
 free-item (Expr.whileDo a c d) r l fe h = tt
 free-item (Expr.seq a c d) r l fe h = absurd (omega arith)
@@ -166,18 +195,18 @@ free-item (Expr.instanceOf a e c) r l fe h = tt
 free-item (Expr.invoke a e m xs) r l fe h = tt
 
 -- every expression is free where no joint follows
-free-alone : (e : Bare) (r : List Terminal) → AtJoint (λ j. ⊥) r → Free e r
+free-alone : (e : Bare) (r : List Terminal) → AtJoint Never r → Free e r
 free-alone (Expr.int a w) r h = tt
 free-alone (Expr.nil a) r h = tt
 free-alone (Expr.self a) r h = tt
 free-alone (Expr.string a w) r h = tt
 free-alone (Expr.local a x) r h = tt
-free-alone (Expr.setLocal a x e) r h = (at-joint _ (Leaves e) (λ j z. absurd z) r h, free-alone e r h)
+free-alone (Expr.setLocal a x e) r h = (calm-alone e r h, free-alone e r h)
 free-alone (Expr.field a x) r h = tt
-free-alone (Expr.setField a x e) r h = (at-joint _ (Leaves e) (λ j z. absurd z) r h, free-alone e r h)
+free-alone (Expr.setField a x e) r h = (calm-alone e r h, free-alone e r h)
 free-alone (Expr.ifThenElse a c d e) r h = tt
 free-alone (Expr.whileDo a c d) r h = tt
-free-alone (Expr.seq a c d) r h = (at-joint _ (Leaves d) (λ j z. absurd z) r h, at-joint _ Further (λ j z. absurd z) r h, free-alone d r h)
+free-alone (Expr.seq a c d) r h = (calm-alone d r h, at-first Never Joint.semicolon r h, free-alone d r h)
 free-alone (Expr.new a c xs) r h = tt
 free-alone (Expr.instanceOf a e c) r h = tt
 free-alone (Expr.invoke a e m xs) r h = tt
@@ -216,7 +245,7 @@ level-top (Expr.instanceOf a e c) = omega arith
 level-top (Expr.invoke a e m xs) = omega arith
 
 -- no expression begins with `)`
-unclosed : (e : Bare) (r : List Terminal) → Unclosed (toks e r)
+unclosed : (e : Bare) (r : List Terminal) → First (symbol sign.CloseParen) (toks e r) → ⊥
 unclosed (Expr.int a w) r = λ q. let z : _≡_ {A = ℕ} 0 1 = cc in omega arith
 unclosed (Expr.nil a) r = λ q. let z : _≡_ {A = ℕ} 0 1 = cc in omega arith
 unclosed (Expr.self a) r = λ q. let z : _≡_ {A = ℕ} 0 1 = cc in omega arith
@@ -275,7 +304,7 @@ mutual
       leading xs (fx .0) f k (toks e (symbol sign.CloseParen ∷ r)) (unclosed e _)
       ∙ complete e (fx .1) (Context.within (Bracket.argument f xs) k) (level-top e) (symbol sign.CloseParen ∷ r) (free-alone e _ tt)
 
-  leading : (xs : BareArgs) → FormedArgs xs → (f : Callee) (k : Context) (r : List Terminal) → Unclosed r → run (leadToks xs r) (State.opened f k) ≡ run r (State.want (Context.within (Bracket.argument f xs) k))
+  leading : (xs : BareArgs) → FormedArgs xs → (f : Callee) (k : Context) (r : List Terminal) → (First (symbol sign.CloseParen) r → ⊥) → run (leadToks xs r) (State.opened f k) ≡ run r (State.want (Context.within (Bracket.argument f xs) k))
   leading Args.none fx f k r h = argument-begins f k r h
   leading (Args.more xs e) fx f k r h =
       leading xs (fx .0) f k (toks e (symbol sign.Comma ∷ r)) (unclosed e _)

@@ -3,46 +3,24 @@ use mathlib.Core.Path.{_≡_}
 use mathlib.Core.List.{List, [], _∷_}
 use mathlib.Core.Option.{none}
 use Prim.Native.Nat.{_<_}
-use Rattle.lexer.specs.Token.{Terminal, symbol}
+use Rattle.lexer.specs.Token.{Terminal, keyword, symbol}
+use Rattle.lexer.specs.declared.token.Keyword.the-variants as word
 use Rattle.lexer.specs.declared.token.Symbol.the-variants as sign
 use Rattle.grammar.specs.Tree.{Bare}
 use Rattle.grammar.specs.Grammar.{level, operand, test}
-use Rattle.grammar.specs.Role.{Role, Joint, role}
 use Rattle.grammar.specs.Machine.{targetOf}
 
-abbrev pub IfJoint : (Joint → Type 0) → Role → Type 0
-IfJoint P (Role.name x) = Unit {0}
-IfJoint P (Role.leaf l) = Unit {0}
-IfJoint P (Role.opening o) = Unit {0}
-IfJoint P (Role.joint j) = P j
-IfJoint P (Role.stop s) = Unit {0}
+-- the tokens begin with t
+abbrev pub First : Terminal → List Terminal → Type 0
+First t [] = ⊥
+First t (u ∷ r) = u ≡ t
 
--- if the tokens begin with a joint, it has P
-abbrev pub AtJoint : (Joint → Type 0) → List Terminal → Type 0
-AtJoint P [] = Unit {0}
-AtJoint P (t ∷ r) = IfJoint P (role t)
-
-abbrev pub Leaves : Bare → Joint → Type 0
-Leaves e Joint.semicolon = Unit {0}
-Leaves e Joint.equals = targetOf e ≡ none
-Leaves e Joint.dot = operand < level e
-Leaves e Joint.instanceOf = test < level e
-
--- what follows does not go on with the item e
-abbrev pub Calm : Bare → List Terminal → Type 0
-Calm e r = AtJoint (Leaves e) r
-
-abbrev pub Further : Joint → Type 0
-Further Joint.semicolon = ⊥
-Further Joint.equals = Unit {0}
-Further Joint.dot = Unit {0}
-Further Joint.instanceOf = Unit {0}
+-- the tokens do not go on with the item e
+pub record Calm (e : Bare) (r : List Terminal) : Type 0 where
+  pub equals : First (symbol sign.Equals) r → targetOf e ≡ none
+  pub dot : First (symbol sign.Dot) r → operand < level e
+  pub instanceOf : First (keyword word.InstanceOf) r → test < level e
 
 -- no further item follows
 abbrev pub Last : List Terminal → Type 0
-Last r = AtJoint Further r
-
--- no `)` follows
-abbrev pub Unclosed : List Terminal → Type 0
-Unclosed [] = Unit {0}
-Unclosed (t ∷ r) = t ≡ symbol sign.CloseParen → ⊥
+Last r = First (symbol sign.Semicolon) r → ⊥
