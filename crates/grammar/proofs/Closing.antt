@@ -1,16 +1,16 @@
 -- Every state can be closed: the tree that closes it begins with what was read.
-use mathlib.Core.Path.{_≡_, refl, sym, ap, _∙_}
+use mathlib.Core.Path.{_≡_, refl, ap, _∙_}
 use mathlib.Core.List.{List, [], _∷_, _++_}
 use Prim.Native.Nat.{ℕ, _≤_}
 use native.Mathlib.Omega.{arith}
 use Rattle.lexer.specs.Token.{Terminal, identifier, integer, keyword, symbol}
 use Rattle.lexer.specs.declared.token.Keyword.the-variants as word
 use Rattle.lexer.specs.declared.token.Symbol.the-variants as sign
-use Rattle.grammar.specs.Tree.{Expr, Args, Class, Text, Bare, BareArgs, BareClass, BareText}
-use Rattle.grammar.specs.Grammar.{Kind, toks, nameToks, methodsToks, classToks, tokensOf, level, Formed, FormedMethods, FormedText, operand, test, item}
+use Rattle.grammar.specs.Tree.{Expr, Args, Class, Text, Bare, BareClass, BareText}
+use Rattle.grammar.specs.Grammar.{Kind, toks, nameToks, classToks, tokensOf, level, Formed, FormedMethods, FormedText, operand}
 use Rattle.grammar.specs.Machine.{Target, write, Callee, call, Bracket, Context, room, Place, State, withMethod}
-use Rattle.grammar.proofs.Tokens.{leadNames, names-last, methods-last, formed-last}
-use Rattle.grammar.proofs.Reading.{calleeToks, targetToken, bracketToks, headToks, readK, readAt, read, FineCallee, FineBracket, FineK, FineAt, Fine, roomy}
+use Rattle.grammar.proofs.Tokens.{names-last, methods-last, formed-last}
+use Rattle.grammar.proofs.Reading.{bracketToks, readK, readAt, read, FineCallee, FineBracket, FineK, FineAt, Fine, roomy}
 
 -- the expression 0 and the name a
 abbrev digits : List ℕ

@@ -1,118 +1,20 @@
 -- A tree's tokens, wherever a tree is wanted, lead to the state that has the tree.
 use mathlib.Core.Path.{_≡_, refl, sym, ap, subst, _∙_}
-use mathlib.Core.Bool.{Bool, true, false, cond}
-use mathlib.Core.Option.{Option, none, some}
+use mathlib.Core.Option.{none}
 use mathlib.Core.List.{List, [], _∷_, _++_, append-nil, append-assoc}
-use Prim.Native.Nat.{ℕ, _≤_, _<_}
+use Prim.Native.Nat.{ℕ, _≤_}
 use native.Mathlib.Omega.{arith}
-use lib.Dec.{leb, eqb}
-use borrow.Author.Tests.{le-leb, lt-leb}
-use Rattle.lexer.specs.Token.{Terminal, identifier, integer, keyword, symbol}
+use Rattle.lexer.specs.Token.{Terminal, identifier, keyword, symbol}
 use Rattle.lexer.specs.declared.token.Keyword.the-variants as word
 use Rattle.lexer.specs.declared.token.Symbol.the-variants as sign
-use Rattle.grammar.specs.Tree.{Expr, Args, Method, Class, Text, Bare, BareArgs, BareMethod, BareClass, BareText}
-use Rattle.grammar.specs.Grammar.{Kind, toks, argToks, leadToks, nameToks, methodToks, methodsToks, tokensOf, level, Formed, FormedArgs, FormedMethods, FormedText, operand, test, item, sequence}
-use Rattle.grammar.specs.Role.{Role, Joint, Stop, role, code, on}
-use Rattle.grammar.specs.Machine.{Target, write, targetOf, Callee, call, Bracket, Context, room, Place, State, Outcome, withMethod, next, assign, takes, step, went, run, initial, parse}
+use Rattle.grammar.specs.Tree.{Expr, Args, Text, Bare, BareArgs, BareMethod, BareClass, BareText}
+use Rattle.grammar.specs.Grammar.{Kind, toks, argToks, leadToks, nameToks, methodToks, methodsToks, tokensOf, level, Formed, FormedArgs, FormedMethods, FormedText, test, item, sequence}
+use Rattle.grammar.specs.Role.{Role, Joint, role}
+use Rattle.grammar.specs.Machine.{Target, Callee, call, Bracket, Context, room, Place, State, Outcome, run, parse}
 use Rattle.grammar.specs.Following.{First, Calm, Last}
-use Rattle.grammar.proofs.Tokens.{jointToken, stopToken, token, token-role, same-stop}
+use Rattle.grammar.proofs.Tokens.{jointToken}
 use Rattle.grammar.proofs.Reading.{roomy}
-
-pub goes : (s m : State) (t : Terminal) (r : List Terminal) → step s t ≡ some m → run (t ∷ r) s ≡ run r m
-unfolding run
-goes s m t r q = ap (went (run r) (t ∷ r)) q
-
-pub halts-at : (s : State) (t : Terminal) (r : List Terminal) → step s t ≡ none → run (t ∷ r) s ≡ Outcome.refused (t ∷ r)
-unfolding run
-halts-at s t r q = ap (went (run r) (t ∷ r)) q
-
--- two states that take the next token alike run alike
-alike : (s m : State) (t : Terminal) (r : List Terminal) → takes s (role t) ≡ takes m (role t) → run (t ∷ r) s ≡ run (t ∷ r) m
-unfolding run
-alike s m t r q = ap (went (run r) (t ∷ r)) q
-
-dot-leaves : (e : Bare) (k : Context) → operand < level e → takes (State.have e k) (Role.joint Joint.dot) ≡ none
-dot-leaves e k h = ap (λ b. cond b (some (State.dotted e k)) none) (lt-leb (level e) operand h)
-
-instanceOf-leaves : (e : Bare) (k : Context) → test < level e → takes (State.have e k) (Role.joint Joint.instanceOf) ≡ none
-instanceOf-leaves e k h = ap (λ b. cond b (some (State.tested e k)) none) (lt-leb (level e) test h)
-
-equals-leaves : (e : Bare) (k : Context) → targetOf e ≡ none → takes (State.have e k) (Role.joint Joint.equals) ≡ none
-equals-leaves e k h = ap (λ t. assign t k) h
-
--- an item ends, and what waited for it is joined with it
-value-takes : (t : Target) (e : Bare) (k : Context) (ρ : Role) (r : List Terminal) → Calm e (token ρ ∷ r) → takes (State.have e (Context.value t k)) ρ ≡ takes (State.have (write t e) k) ρ
-value-takes t e k (Role.name x) r h = refl
-value-takes t e k (Role.leaf l) r h = refl
-value-takes t e k (Role.opening o) r h = refl
-value-takes t e k (Role.joint Joint.semicolon) r h = refl
-value-takes (Target.local x) e k (Role.joint Joint.equals) r h = equals-leaves e _ (h .equals refl)
-value-takes (Target.field x) e k (Role.joint Joint.equals) r h = equals-leaves e _ (h .equals refl)
-value-takes (Target.local x) e k (Role.joint Joint.dot) r h = dot-leaves e _ (h .dot refl)
-value-takes (Target.field x) e k (Role.joint Joint.dot) r h = dot-leaves e _ (h .dot refl)
-value-takes (Target.local x) e k (Role.joint Joint.instanceOf) r h = instanceOf-leaves e _ (h .instanceOf refl)
-value-takes (Target.field x) e k (Role.joint Joint.instanceOf) r h = instanceOf-leaves e _ (h .instanceOf refl)
-value-takes t e k (Role.stop s) r h = refl
-
-pub value-ends : (t : Target) (e : Bare) (k : Context) (r : List Terminal) → Calm e r → run r (State.have e (Context.value t k)) ≡ run r (State.have (write t e) k)
-unfolding run
-value-ends t e k [] h = refl
-value-ends t e k (x ∷ r) h =
-    alike (State.have e (Context.value t k)) (State.have (write t e) k) x r (value-takes t e k (role x) r (subst (λ z. Calm e (z ∷ r)) (sym (token-role x)) h))
-
-rest-takes : (d e : Bare) (k : Context) (ρ : Role) (r : List Terminal) → Calm e (token ρ ∷ r) → Last (token ρ ∷ r) → takes (State.have e (Context.rest d k)) ρ ≡ takes (State.have (Expr.seq tt d e) k) ρ
-rest-takes d e k (Role.name x) r h g = refl
-rest-takes d e k (Role.leaf l) r h g = refl
-rest-takes d e k (Role.opening o) r h g = refl
-rest-takes d e k (Role.joint Joint.semicolon) r h g = absurd (g refl)
-rest-takes d e k (Role.joint Joint.equals) r h g = equals-leaves e _ (h .equals refl)
-rest-takes d e k (Role.joint Joint.dot) r h g = dot-leaves e _ (h .dot refl)
-rest-takes d e k (Role.joint Joint.instanceOf) r h g = instanceOf-leaves e _ (h .instanceOf refl)
-rest-takes d e k (Role.stop s) r h g = refl
-
-pub rest-ends : (d e : Bare) (k : Context) (r : List Terminal) → Calm e r → Last r → run r (State.have e (Context.rest d k)) ≡ run r (State.have (Expr.seq tt d e) k)
-unfolding run
-rest-ends d e k [] h g = refl
-rest-ends d e k (x ∷ r) h g =
-    alike (State.have e (Context.rest d k)) (State.have (Expr.seq tt d e) k) x r
-    (rest-takes d e k (role x) r (subst (λ z. Calm e (z ∷ r)) (sym (token-role x)) h) (subst (λ z. Last (z ∷ r)) (sym (token-role x)) g))
-
--- a token that is not the one wanted
-pub other : {A : Type 0} (a s : Stop) (x y : A) → (stopToken s ≡ stopToken a → ⊥) → on a s x y ≡ y
-other a s x y h = go (eqb (code a) (code s)) refl
-  where
-    go : (b : Bool) → eqb (code a) (code s) ≡ b → cond b x y ≡ y
-    go true q = absurd (h (sym (ap stopToken (same-stop a s q))))
-    go false q = refl
-
--- the first argument begins where no `)` stands
-argument-takes : (f : Callee) (k : Context) (ρ : Role) → (token ρ ≡ symbol sign.CloseParen → ⊥) → takes (State.opened f k) ρ ≡ takes (State.want (Context.within (Bracket.argument f Args.none) k)) ρ
-argument-takes f k (Role.name x) h = refl
-argument-takes f k (Role.leaf l) h = refl
-argument-takes f k (Role.opening o) h = refl
-argument-takes f k (Role.joint j) h = refl
-argument-takes f k (Role.stop s) h = other Stop.close s _ none h
-
-pub argument-begins : (f : Callee) (k : Context) (r : List Terminal) → (First (symbol sign.CloseParen) r → ⊥) → run r (State.opened f k) ≡ run r (State.want (Context.within (Bracket.argument f Args.none) k))
-unfolding run
-argument-begins f k [] h = refl
-argument-begins f k (t ∷ r) h = alike (State.opened f k) (State.want (Context.within (Bracket.argument f Args.none) k)) t r (argument-takes f k (role t) (λ q. h (sym (token-role t) ∙ q)))
-
-pub next-is : (e : Bare) (k : Context) → sequence ≤ room k → next e k ≡ State.want (Context.rest e k)
-next-is e Context.whole h = refl
-next-is e (Context.body c m ps) h = refl
-next-is e (Context.value t k) h = absurd (omega arith)
-next-is e (Context.rest d k) h = refl
-next-is e (Context.within b k) h = refl
-
-pub semicolon-goes : (e : Bare) (k : Context) (r : List Terminal) → sequence ≤ room k → run (symbol sign.Semicolon ∷ r) (State.have e k) ≡ run r (State.want (Context.rest e k))
-semicolon-goes e k r h = goes (State.have e k) _ (symbol sign.Semicolon) r (ap some (next-is e k h))
-
-pub dot-goes : (e : Bare) (k : Context) (r : List Terminal) → level e ≤ operand → run (symbol sign.Dot ∷ r) (State.have e k) ≡ run r (State.dotted e k)
-dot-goes e k r h = goes (State.have e k) _ (symbol sign.Dot) r (ap (λ b. cond b (some (State.dotted e k)) none) (le-leb (level e) operand h))
-
-pub instanceOf-goes : (e : Bare) (k : Context) (r : List Terminal) → level e ≤ test → run (keyword word.InstanceOf ∷ r) (State.have e k) ≡ run r (State.tested e k)
-instanceOf-goes e k r h = goes (State.have e k) _ (keyword word.InstanceOf) r (ap (λ b. cond b (some (State.tested e k)) none) (le-leb (level e) test h))
+use Rattle.grammar.proofs.Steps.{value-ends, rest-ends, argument-begins, semicolon-goes, dot-goes, instanceOf-goes}
 
 -- what may stand behind the whole of the expression
 abbrev Free : Bare → List Terminal → Type 0

@@ -1,16 +1,16 @@
 -- Notes taken from a text's tokens change no tree, and there is one for each token.
-use mathlib.Core.Path.{_≡_, refl, sym, ap, ap₂, _∙_}
+use mathlib.Core.Path.{_≡_, refl, ap, ap₂, _∙_}
 use mathlib.Core.List.{List, [], _∷_}
-use Prim.Native.Nat.{ℕ, suc, _+_}
+use Prim.Native.Nat.{ℕ, _+_}
 use native.Mathlib.Omega.{arith}
 use lib.ListN.{length, drop}
 use lib.Seq.{drop-drop}
 use Rattle.lexer.specs.Token.{Terminal, identifier, keyword, symbol}
 use Rattle.lexer.specs.declared.token.Keyword.the-variants as word
 use Rattle.lexer.specs.declared.token.Symbol.the-variants as sign
-use Rattle.grammar.specs.Tree.{Expr, Args, Method, Class, Text, Bare, BareArgs, BareMethod, BareClass, BareText}
-use Rattle.grammar.specs.Grammar.{toks, argToks, leadToks, nameToks, methodToks, methodsToks, tokensOf}
-use Rattle.grammar.specs.Notes.{noteOf, forget, forgetArgs, forgetMethods, forgetText, first, annotate, annotateArgs, annotateLead, pastNames, annotateMethod, annotateMethods, annotateText, NotesLaw}
+use Rattle.grammar.specs.Tree.{Expr, Args, Text, Bare, BareArgs, BareMethod, BareText}
+use Rattle.grammar.specs.Grammar.{toks, argToks, leadToks, nameToks, methodsToks, tokensOf}
+use Rattle.grammar.specs.Notes.{noteOf, forget, forgetArgs, forgetMethods, forgetText, first, annotate, annotateArgs, annotateLead, pastNames, annotateMethods, annotateText, NotesLaw}
 
 ap₃ : {B C D E : Type 0} (f : B → C → D → E) {x y : B} {u v : C} {s t : D} → x ≡ y → u ≡ v → s ≡ t → f x u s ≡ f y v t
 ap₃ f p q r = λ i. f (p i) (q i) (r i)

@@ -1,19 +1,19 @@
 -- The tokens that a state has read, and what is fine in it. Each step reads one token and leaves a fine state.
-use mathlib.Core.Path.{_≡_, refl, sym, ap, subst, _∙_}
+use mathlib.Core.Path.{_≡_, refl, sym, ap, subst}
 use mathlib.Core.Bool.{Bool, true, false, cond}
 use mathlib.Core.Option.{Option, none, some}
-use mathlib.Core.List.{List, [], _∷_, _++_}
+use mathlib.Core.List.{List, _∷_}
 use Prim.Native.Nat.{ℕ, _≤_}
 use native.Mathlib.Omega.{arith}
 use lib.Dec.{leb, eqb}
-use borrow.Author.Tests.{leb-true, eqb-true}
+use borrow.Author.Tests.{leb-true}
 use Rattle.lexer.specs.Token.{Terminal, identifier, keyword, symbol}
 use Rattle.lexer.specs.declared.token.Keyword.the-variants as word
 use Rattle.lexer.specs.declared.token.Symbol.the-variants as sign
-use Rattle.grammar.specs.Tree.{Expr, Args, Method, Class, Text, Bare, BareArgs, BareMethod, BareClass}
-use Rattle.grammar.specs.Grammar.{Kind, toks, argToks, leadToks, nameToks, methodToks, methodsToks, classToks, level, Formed, FormedArgs, FormedMethods, operand, test, item, sequence}
+use Rattle.grammar.specs.Tree.{Expr, Args, Class, Bare, BareArgs, BareClass}
+use Rattle.grammar.specs.Grammar.{Kind, toks, argToks, leadToks, nameToks, methodsToks, level, Formed, FormedArgs, FormedMethods, operand, test, item, sequence}
 use Rattle.grammar.specs.Role.{Role, Leaf, Opening, Joint, Stop, role, leafTree, code, on}
-use Rattle.grammar.specs.Machine.{Target, write, targetOf, Callee, call, Bracket, Context, room, Place, State, withMethod, closes, ending, next, assign, opens, joins, begins, follows, naming, only, either, argues, lists, defines, takes, step}
+use Rattle.grammar.specs.Machine.{Target, targetOf, Callee, call, Bracket, Context, room, Place, State, closes, ending, next, assign, opens, joins, begins, follows, naming, only, either, argues, lists, defines, takes, step}
 use Rattle.grammar.proofs.Tokens.{leafToken, openingToken, jointToken, stopToken, token, token-role, same-stop, leadNames, names-last, lead-last, methods-last, formed-last}
 
 abbrev pub calleeToks : Callee → List Terminal → List Terminal

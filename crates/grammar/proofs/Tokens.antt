@@ -8,8 +8,8 @@ use borrow.Author.Tests.{eqb-true}
 use Rattle.lexer.specs.Token.{Terminal, identifier, keyword, symbol}
 use Rattle.lexer.specs.declared.token.Keyword.the-variants as word
 use Rattle.lexer.specs.declared.token.Symbol.the-variants as sign
-use Rattle.grammar.specs.Tree.{Expr, Method, BareMethod}
-use Rattle.grammar.specs.Grammar.{toks, nameToks, methodToks, methodsToks, Formed, FormedMethods}
+use Rattle.grammar.specs.Tree.{BareMethod}
+use Rattle.grammar.specs.Grammar.{nameToks, methodToks, methodsToks, Formed, FormedMethods}
 use Rattle.grammar.specs.Role.{Role, Leaf, Opening, Joint, Stop, role, code}
 
 abbrev pub leafToken : Leaf → Terminal

@@ -8,7 +8,7 @@ use Rattle.lexer.specs.Token.{Terminal}
 use Rattle.grammar.specs.Tree.{Expr, Text, Bare, BareText}
 use Rattle.grammar.specs.Grammar.{Kind, toks, tokensOf, level, Formed, FormedText}
 use Rattle.grammar.specs.Machine.{Target, Context, room, Place, State, Outcome, step, over, overAt, finish, went, run, initial, parse}
-use Rattle.grammar.specs.Law.{Begins, Stuck, Refuses, Law}
+use Rattle.grammar.specs.Law.{Stuck, Refuses, Law}
 use Rattle.grammar.proofs.Reading.{readK, readAt, read, roomy, FineK, FineAt, Fine, Leads, step-leads}
 use Rattle.grammar.proofs.Closing.{closed, closing, closed-toks, closed-formed}
 use Rattle.grammar.proofs.Complete.{text-complete}

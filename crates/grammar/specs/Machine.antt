@@ -5,7 +5,7 @@ use mathlib.Core.Option.{Option, none, some}
 use Prim.Native.Nat.{ℕ}
 use lib.Dec.{leb}
 use Rattle.lexer.specs.Token.{Terminal}
-use Rattle.grammar.specs.Tree.{Expr, Args, Method, Class, Text, Bare, BareArgs, BareClass, BareText}
+use Rattle.grammar.specs.Tree.{Expr, Args, Text, Bare, BareArgs, BareClass, BareText}
 use Rattle.grammar.specs.Grammar.{Kind, level, operand, test, item, sequence}
 use Rattle.grammar.specs.Role.{Role, Opening, Joint, Stop, role, leafTree, on}
 

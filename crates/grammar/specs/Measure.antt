@@ -1,5 +1,5 @@
 -- How large a tree is, and whether it is within the limits. Assumes nothing.
-use mathlib.Core.Bool.{Bool, true, false, cond, _||_}
+use mathlib.Core.Bool.{Bool, false, cond, _||_}
 use mathlib.Core.List.{List, [], _∷_, _++_}
 use Prim.Native.Nat.{ℕ, suc, _+_, _-_, _*_, max, _≤_}
 use lib.Dec.{eqb}
@@ -8,7 +8,7 @@ use lib.Signed.{_≤ℤ_}
 use lib.ListN.{length}
 use Rattle.std.specs.shelf.Text.{sameBytes}
 use Rattle.lexer.specs.Byte.{minus}
-use Rattle.grammar.specs.Tree.{Expr, Args, Method, Class, Text}
+use Rattle.grammar.specs.Tree.{Expr, Args, Method, Text}
 use Rattle.grammar.specs.Limits.{smallestInteger, largestInteger, stringLimit, argumentLimit, nameLimit, depthLimit}
 
 abbrev mutual

@@ -3,7 +3,7 @@ use mathlib.Core.Path.{_≡_}
 use mathlib.Core.List.{List, [], _∷_}
 use Prim.Native.Nat.{ℕ}
 use lib.ListN.{length, drop}
-use Rattle.grammar.specs.Tree.{Expr, Args, Method, Class, Text, Bare, BareArgs, BareMethod, BareClass, BareText}
+use Rattle.grammar.specs.Tree.{Expr, Args, Method, Text, Bare, BareArgs, BareMethod, BareText}
 use Rattle.grammar.specs.Grammar.{tokensOf}
 
 -- the note at an expression's own node
