@@ -5,3 +5,4 @@ pub mod Steps
 pub mod Complete
 pub mod Whole
 pub mod Notes
+pub mod Samples

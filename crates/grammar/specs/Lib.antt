@@ -7,3 +7,4 @@ pub mod Following
 pub mod Notes
 pub mod Limits
 pub mod Measure
+pub mod Samples
