@@ -1,14 +1,15 @@
 -- The law, from one step.
-use mathlib.Core.Path.{_≡_, refl, sym, ap, subst, _∙_}
+use mathlib.Core.Path.{_≡_, refl, sym, ap, ap₂, subst, _∙_}
 use mathlib.Core.Option.{Option, none, some}
-use mathlib.Core.List.{List, [], _∷_, _++_, append-nil}
+use mathlib.Core.List.{List, [], _∷_, _++_, append-nil, append-assoc}
+use mathlib.Core.Logic.{_⊎_, inl, inr}
 use Prim.Native.Nat.{ℕ, _≤_}
 use native.Mathlib.Omega.{arith}
 use Rattle.lexer.specs.Token.{Terminal}
 use Rattle.grammar.specs.Tree.{Expr, Text, Bare, BareText}
 use Rattle.grammar.specs.Grammar.{Kind, toks, tokensOf, level, Formed, FormedText}
 use Rattle.grammar.specs.Machine.{Target, Context, room, Place, State, Outcome, step, over, overAt, finish, went, run, initial, parse}
-use Rattle.grammar.specs.Law.{Stuck, Refuses, Law}
+use Rattle.grammar.specs.Law.{Begins, Stuck, Refuses, HasTree, Law}
 use Rattle.grammar.proofs.Reading.{readK, readAt, read, roomy, FineK, FineAt, Fine, Leads, step-leads}
 use Rattle.grammar.proofs.Closing.{closed, closing, closed-toks, closed-formed}
 use Rattle.grammar.proofs.Complete.{text-complete}
@@ -179,10 +180,63 @@ refuses κ ts rest q =
       stuck = stuck κ (h .pre) rest s (h .way) (h .blocked) (ap (parse κ) (sym (h .split)) ∙ q);
     }
 
+decided : (κ : Kind) (ts : List Terminal) → HasTree κ ts ⊎ ((rest : List Terminal) × Refuses κ ts rest)
+decided κ ts = go (parse κ ts) refl
+  where
+    go : (o : Outcome) → parse κ ts ≡ o → HasTree κ ts ⊎ ((rest : List Terminal) × Refuses κ ts rest)
+    go (Outcome.accepted t) q = let w = sound κ ts t q in inl (t, w .0, w .1)
+    go (Outcome.refused rest) q = inr (rest, refuses κ ts rest q)
+
+never-both : (κ : Kind) (ts rest : List Terminal) → Refuses κ ts rest → HasTree κ ts → ⊥
+never-both κ ts [] h g = h .stuck (g .0) (g .1) (g .2 ∙ h .split ∙ append-nil (h .pre))
+never-both κ ts (x ∷ rest) h g = h .stuck (g .0) rest (g .1) (g .2 ∙ h .split)
+
+-- p is shorter than q: the tokens behind p begin with what q has more
+record Shorter (p a q b : List Terminal) : Type 0 where
+  next : Terminal
+  more : List Terminal
+  longer : q ≡ p ++ (next ∷ more)
+  behind : a ≡ next ∷ (more ++ b)
+
+data Splits (p a q b : List Terminal) : Type 0 where
+  same : a ≡ b → Splits p a q b
+  left : Shorter p a q b → Splits p a q b
+  right : Shorter q b p a → Splits p a q b
+
+-- two ways to split one list
+splits : (p a q b : List Terminal) → p ++ a ≡ q ++ b → Splits p a q b
+splits [] a [] b e = same e
+splits [] a (x ∷ q) b e = left (record { next = x; more = q; longer = refl; behind = e })
+splits (x ∷ p) a [] b e = right (record { next = x; more = p; longer = refl; behind = sym e })
+splits (x ∷ p) a (y ∷ q) b e =
+    let heads : x ≡ y = cc in
+    let tails : p ++ a ≡ q ++ b = cc in
+    elim (splits p a q b tails) [
+      | same h ↦ same h
+      | left h ↦ left (record { next = h .next; more = h .more; longer = ap₂ _∷_ (sym heads) (h .longer); behind = h .behind })
+      | right h ↦ right (record { next = h .next; more = h .more; longer = ap₂ _∷_ heads (h .longer); behind = h .behind })
+    ]
+
+-- what some tree begins with is not stuck earlier
+not-earlier : (κ : Kind) (p a q b : List Terminal) → Stuck κ p a → Begins κ q → Shorter p a q b → ⊥
+not-earlier κ p a q b st w h =
+    let blocked : Stuck κ p (h .next ∷ (h .more ++ b)) = subst (Stuck κ p) (h .behind) st in
+    blocked (w .0) (h .more ++ w .1) (w .2) (w .3 ∙ ap (λ z. z ++ w .1) (h .longer) ∙ append-assoc p (h .next ∷ h .more) (w .1))
+
+one-place : (κ : Kind) (ts a b : List Terminal) → Refuses κ ts a → Refuses κ ts b → a ≡ b
+one-place κ ts a b h g = elim (splits (h .pre) a (g .pre) b (sym (h .split) ∙ g .split)) [
+  | same e ↦ e
+  | left s ↦ absurd (not-earlier κ (h .pre) a (g .pre) b (h .stuck) (g .viable) s)
+  | right s ↦ absurd (not-earlier κ (g .pre) b (h .pre) a (g .stuck) (h .viable) s)
+]
+
 pub law : (κ : Kind) → Law κ
 law κ = record {
   sound = sound κ;
   complete = text-complete κ;
   refuses = refuses κ;
-  unique = unique κ;
+  decided = decided κ;
+  never-both = never-both κ;
+  one-tree = unique κ;
+  one-place = one-place κ;
 }
