@@ -8,7 +8,7 @@ use Rattle.lexer.specs.declared.token.Keyword.the-variants as word
 use Rattle.lexer.specs.declared.token.Symbol.the-variants as sign
 use Rattle.grammar.specs.Tree.{Expr, Args, Class, Text, Bare, BareClass, BareText}
 use Rattle.grammar.specs.Grammar.{Kind, toks, nameToks, classToks, tokensOf, level, Formed, FormedMethods, FormedText, operand}
-use Rattle.grammar.specs.Machine.{Target, write, Callee, call, Bracket, Context, room, Place, State, withMethod}
+use Rattle.grammar.specs.Machine.{Target, write, Callee, call, Bracket, Context, room, Stage, State, withMethod}
 use Rattle.grammar.proofs.Tokens.{names-last, methods-last, formed-last}
 use Rattle.grammar.proofs.Reading.{bracketToks, readK, readAt, read, FineCallee, FineBracket, FineK, FineAt, Fine, roomy}
 
@@ -94,64 +94,64 @@ plug-formed κ e (Context.within b k) fe h fk =
     let g = roomy k in let f = filled-formed b e (fk .0) fe in let l = f .0 in plug-formed κ (filled b e) k (f .1) (omega arith) (fk .1)
 
 -- the same outside the bodies of a class
-abbrev closedAt : Place → BareClass
-closedAt Place.start = record { name = letter; parent = letter; methods = [] }
-closedAt Place.class = record { name = letter; parent = letter; methods = [] }
-closedAt (Place.className c) = record { name = c; parent = letter; methods = [] }
-closedAt (Place.less c) = record { name = c; parent = letter; methods = [] }
-closedAt (Place.parent c p) = record { name = c; parent = p; methods = [] }
-closedAt (Place.members c) = c
-closedAt (Place.def c) = withMethod c letter [] nought
-closedAt (Place.methodName c m) = withMethod c m [] nought
-closedAt (Place.open′ c m) = withMethod c m [] nought
-closedAt (Place.parameter c m ps p) = withMethod c m (ps ++ (p ∷ [])) nought
-closedAt (Place.comma c m ps) = withMethod c m (ps ++ (letter ∷ [])) nought
-closedAt (Place.end c) = c
+abbrev closedAt : Stage → BareClass
+closedAt Stage.start = record { name = letter; parent = letter; methods = [] }
+closedAt Stage.class = record { name = letter; parent = letter; methods = [] }
+closedAt (Stage.className c) = record { name = c; parent = letter; methods = [] }
+closedAt (Stage.less c) = record { name = c; parent = letter; methods = [] }
+closedAt (Stage.parent c p) = record { name = c; parent = p; methods = [] }
+closedAt (Stage.members c) = c
+closedAt (Stage.def c) = withMethod c letter [] nought
+closedAt (Stage.methodName c m) = withMethod c m [] nought
+closedAt (Stage.open′ c m) = withMethod c m [] nought
+closedAt (Stage.parameter c m ps p) = withMethod c m (ps ++ (p ∷ [])) nought
+closedAt (Stage.comma c m ps) = withMethod c m (ps ++ (letter ∷ [])) nought
+closedAt (Stage.end c) = c
 
-abbrev closeAt : Place → List Terminal
-closeAt Place.start = keyword word.Class ∷ identifier letter ∷ symbol sign.Less ∷ identifier letter ∷ keyword word.Begin ∷ keyword word.End ∷ []
-closeAt Place.class = identifier letter ∷ symbol sign.Less ∷ identifier letter ∷ keyword word.Begin ∷ keyword word.End ∷ []
-closeAt (Place.className c) = symbol sign.Less ∷ identifier letter ∷ keyword word.Begin ∷ keyword word.End ∷ []
-closeAt (Place.less c) = identifier letter ∷ keyword word.Begin ∷ keyword word.End ∷ []
-closeAt (Place.parent c p) = keyword word.Begin ∷ keyword word.End ∷ []
-closeAt (Place.members c) = keyword word.End ∷ []
-closeAt (Place.def c) = identifier letter ∷ symbol sign.OpenParen ∷ symbol sign.CloseParen ∷ integer digits ∷ keyword word.End ∷ keyword word.End ∷ []
-closeAt (Place.methodName c m) = symbol sign.OpenParen ∷ symbol sign.CloseParen ∷ integer digits ∷ keyword word.End ∷ keyword word.End ∷ []
-closeAt (Place.open′ c m) = symbol sign.CloseParen ∷ integer digits ∷ keyword word.End ∷ keyword word.End ∷ []
-closeAt (Place.parameter c m ps p) = symbol sign.CloseParen ∷ integer digits ∷ keyword word.End ∷ keyword word.End ∷ []
-closeAt (Place.comma c m ps) = identifier letter ∷ symbol sign.CloseParen ∷ integer digits ∷ keyword word.End ∷ keyword word.End ∷ []
-closeAt (Place.end c) = []
+abbrev closeAt : Stage → List Terminal
+closeAt Stage.start = keyword word.Class ∷ identifier letter ∷ symbol sign.Less ∷ identifier letter ∷ keyword word.Begin ∷ keyword word.End ∷ []
+closeAt Stage.class = identifier letter ∷ symbol sign.Less ∷ identifier letter ∷ keyword word.Begin ∷ keyword word.End ∷ []
+closeAt (Stage.className c) = symbol sign.Less ∷ identifier letter ∷ keyword word.Begin ∷ keyword word.End ∷ []
+closeAt (Stage.less c) = identifier letter ∷ keyword word.Begin ∷ keyword word.End ∷ []
+closeAt (Stage.parent c p) = keyword word.Begin ∷ keyword word.End ∷ []
+closeAt (Stage.members c) = keyword word.End ∷ []
+closeAt (Stage.def c) = identifier letter ∷ symbol sign.OpenParen ∷ symbol sign.CloseParen ∷ integer digits ∷ keyword word.End ∷ keyword word.End ∷ []
+closeAt (Stage.methodName c m) = symbol sign.OpenParen ∷ symbol sign.CloseParen ∷ integer digits ∷ keyword word.End ∷ keyword word.End ∷ []
+closeAt (Stage.open′ c m) = symbol sign.CloseParen ∷ integer digits ∷ keyword word.End ∷ keyword word.End ∷ []
+closeAt (Stage.parameter c m ps p) = symbol sign.CloseParen ∷ integer digits ∷ keyword word.End ∷ keyword word.End ∷ []
+closeAt (Stage.comma c m ps) = identifier letter ∷ symbol sign.CloseParen ∷ integer digits ∷ keyword word.End ∷ keyword word.End ∷ []
+closeAt (Stage.end c) = []
 
-last-toks : (c : BareClass) (m : List ℕ) (ps : List (List ℕ)) (p : List ℕ) (r : List Terminal) → readAt (Place.open′ c m) (nameToks (ps ++ (p ∷ [])) r) ≡ readAt (Place.parameter c m ps p) r
-last-toks c m ps p r = ap (readAt (Place.open′ c m)) (names-last ps p r)
+last-toks : (c : BareClass) (m : List ℕ) (ps : List (List ℕ)) (p : List ℕ) (r : List Terminal) → readAt (Stage.open′ c m) (nameToks (ps ++ (p ∷ [])) r) ≡ readAt (Stage.parameter c m ps p) r
+last-toks c m ps p r = ap (readAt (Stage.open′ c m)) (names-last ps p r)
 
-closedAt-toks : (p : Place) → classToks (closedAt p) [] ≡ readAt p (closeAt p)
-closedAt-toks Place.start = refl
-closedAt-toks Place.class = refl
-closedAt-toks (Place.className c) = refl
-closedAt-toks (Place.less c) = refl
-closedAt-toks (Place.parent c p) = refl
-closedAt-toks (Place.members c) = refl
-closedAt-toks (Place.def c) = added-toks c letter [] nought
-closedAt-toks (Place.methodName c m) = added-toks c m [] nought
-closedAt-toks (Place.open′ c m) = added-toks c m [] nought
-closedAt-toks (Place.parameter c m ps p) = added-toks c m (ps ++ (p ∷ [])) nought ∙ last-toks c m ps p _
-closedAt-toks (Place.comma c m ps) = added-toks c m (ps ++ (letter ∷ [])) nought ∙ last-toks c m ps letter _
-closedAt-toks (Place.end c) = refl
+closedAt-toks : (p : Stage) → classToks (closedAt p) [] ≡ readAt p (closeAt p)
+closedAt-toks Stage.start = refl
+closedAt-toks Stage.class = refl
+closedAt-toks (Stage.className c) = refl
+closedAt-toks (Stage.less c) = refl
+closedAt-toks (Stage.parent c p) = refl
+closedAt-toks (Stage.members c) = refl
+closedAt-toks (Stage.def c) = added-toks c letter [] nought
+closedAt-toks (Stage.methodName c m) = added-toks c m [] nought
+closedAt-toks (Stage.open′ c m) = added-toks c m [] nought
+closedAt-toks (Stage.parameter c m ps p) = added-toks c m (ps ++ (p ∷ [])) nought ∙ last-toks c m ps p _
+closedAt-toks (Stage.comma c m ps) = added-toks c m (ps ++ (letter ∷ [])) nought ∙ last-toks c m ps letter _
+closedAt-toks (Stage.end c) = refl
 
-closedAt-formed : (p : Place) → FineAt p → FormedMethods (closedAt p .methods)
-closedAt-formed Place.start h = tt
-closedAt-formed Place.class h = tt
-closedAt-formed (Place.className c) h = tt
-closedAt-formed (Place.less c) h = tt
-closedAt-formed (Place.parent c p) h = tt
-closedAt-formed (Place.members c) h = h
-closedAt-formed (Place.def c) h = formed-last (c .methods) _ h tt
-closedAt-formed (Place.methodName c m) h = formed-last (c .methods) _ h tt
-closedAt-formed (Place.open′ c m) h = formed-last (c .methods) _ h tt
-closedAt-formed (Place.parameter c m ps p) h = formed-last (c .methods) _ h tt
-closedAt-formed (Place.comma c m ps) h = formed-last (c .methods) _ h tt
-closedAt-formed (Place.end c) h = h
+closedAt-formed : (p : Stage) → FineAt p → FormedMethods (closedAt p .methods)
+closedAt-formed Stage.start h = tt
+closedAt-formed Stage.class h = tt
+closedAt-formed (Stage.className c) h = tt
+closedAt-formed (Stage.less c) h = tt
+closedAt-formed (Stage.parent c p) h = tt
+closedAt-formed (Stage.members c) h = h
+closedAt-formed (Stage.def c) h = formed-last (c .methods) _ h tt
+closedAt-formed (Stage.methodName c m) h = formed-last (c .methods) _ h tt
+closedAt-formed (Stage.open′ c m) h = formed-last (c .methods) _ h tt
+closedAt-formed (Stage.parameter c m ps p) h = formed-last (c .methods) _ h tt
+closedAt-formed (Stage.comma c m ps) h = formed-last (c .methods) _ h tt
+closedAt-formed (Stage.end c) h = h
 
 abbrev pub closed : State → BareText
 closed (State.want k) = plug nought k

@@ -10,7 +10,7 @@ use Rattle.lexer.specs.declared.token.Symbol.the-variants as sign
 use Rattle.grammar.specs.Tree.{Expr, Args, Text, Bare, BareArgs, BareMethod, BareClass, BareText}
 use Rattle.grammar.specs.Grammar.{Kind, toks, argToks, leadToks, nameToks, methodToks, methodsToks, tokensOf, level, Formed, FormedArgs, FormedMethods, FormedText, test, item, sequence}
 use Rattle.grammar.specs.Role.{Role, Joint, role}
-use Rattle.grammar.specs.Machine.{Target, Callee, call, Bracket, Context, room, Place, State, Outcome, run, parse}
+use Rattle.grammar.specs.Machine.{Target, Callee, call, Bracket, Context, room, Stage, State, Outcome, run, parse}
 use Rattle.grammar.specs.Following.{First, Calm, Last}
 use Rattle.grammar.proofs.Tokens.{jointToken}
 use Rattle.grammar.proofs.Reading.{roomy}
@@ -213,12 +213,12 @@ mutual
       ∙ complete e (fx .1) (Context.within (Bracket.argument f xs) k) (level-top e) (symbol sign.Comma ∷ r) (free-alone e _ tt)
 
 module _ (c : BareClass) (m : List ℕ) where
-  parameters-go : (p : List ℕ) (ps before : List (List ℕ)) (r : List Terminal) → run (nameToks (p ∷ ps) (symbol sign.CloseParen ∷ r)) (State.define (Place.comma c m before)) ≡ run r (State.want (Context.body c m (before ++ (p ∷ ps))))
+  parameters-go : (p : List ℕ) (ps before : List (List ℕ)) (r : List Terminal) → run (nameToks (p ∷ ps) (symbol sign.CloseParen ∷ r)) (State.define (Stage.comma c m before)) ≡ run r (State.want (Context.body c m (before ++ (p ∷ ps))))
   unfolding run
   parameters-go p [] before r = refl
   parameters-go p (q ∷ ps) before r = parameters-go q ps (before ++ (p ∷ [])) r ∙ ap (λ z. run r (State.want (Context.body c m z))) (append-assoc before (p ∷ []) (q ∷ ps))
 
-  parameters-complete : (ps : List (List ℕ)) (r : List Terminal) → run (nameToks ps (symbol sign.CloseParen ∷ r)) (State.define (Place.open′ c m)) ≡ run r (State.want (Context.body c m ps))
+  parameters-complete : (ps : List (List ℕ)) (r : List Terminal) → run (nameToks ps (symbol sign.CloseParen ∷ r)) (State.define (Stage.open′ c m)) ≡ run r (State.want (Context.body c m ps))
   unfolding run
   parameters-complete [] r = refl
   parameters-complete (p ∷ []) r = refl
@@ -228,18 +228,18 @@ module _ (c : BareClass) (m : List ℕ) where
 abbrev withMethods : BareClass → List BareMethod → BareClass
 withMethods c ms = record { name = c .name; parent = c .parent; methods = ms }
 
-method-complete : (m : BareMethod) → Formed (m .body) → (c : BareClass) (r : List Terminal) → run (methodToks m r) (State.define (Place.members c)) ≡ run r (State.define (Place.members (withMethods c (c .methods ++ (m ∷ [])))))
+method-complete : (m : BareMethod) → Formed (m .body) → (c : BareClass) (r : List Terminal) → run (methodToks m r) (State.define (Stage.members c)) ≡ run r (State.define (Stage.members (withMethods c (c .methods ++ (m ∷ [])))))
 unfolding run
 method-complete m fm c r =
     parameters-complete c (m .name) (m .parameters) (toks (m .body) (keyword word.End ∷ r))
     ∙ complete (m .body) fm (Context.body c (m .name) (m .parameters)) (level-top (m .body)) (keyword word.End ∷ r) (free-alone (m .body) _ tt)
 
-methods-complete : (ms before : List BareMethod) → FormedMethods ms → (c : BareClass) (r : List Terminal) → run (methodsToks ms r) (State.define (Place.members (withMethods c before))) ≡ run r (State.define (Place.members (withMethods c (before ++ ms))))
-methods-complete [] before fm c r = ap (λ z. run r (State.define (Place.members (withMethods c z)))) (sym (append-nil before))
+methods-complete : (ms before : List BareMethod) → FormedMethods ms → (c : BareClass) (r : List Terminal) → run (methodsToks ms r) (State.define (Stage.members (withMethods c before))) ≡ run r (State.define (Stage.members (withMethods c (before ++ ms))))
+methods-complete [] before fm c r = ap (λ z. run r (State.define (Stage.members (withMethods c z)))) (sym (append-nil before))
 methods-complete (m ∷ ms) before fm c r =
     method-complete m (fm .0) (withMethods c before) (methodsToks ms r)
     ∙ methods-complete ms (before ++ (m ∷ [])) (fm .1) c r
-    ∙ ap (λ z. run r (State.define (Place.members (withMethods c z)))) (append-assoc before (m ∷ []) ms)
+    ∙ ap (λ z. run r (State.define (Stage.members (withMethods c z)))) (append-assoc before (m ∷ []) ms)
 
 class-complete : (c : BareClass) → FormedMethods (c .methods) → parse Kind.class (tokensOf (Text.class c)) ≡ Outcome.accepted (Text.class c)
 unfolding run

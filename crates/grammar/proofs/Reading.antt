@@ -13,7 +13,7 @@ use Rattle.lexer.specs.declared.token.Symbol.the-variants as sign
 use Rattle.grammar.specs.Tree.{Expr, Args, Class, Bare, BareArgs, BareClass}
 use Rattle.grammar.specs.Grammar.{Kind, toks, argToks, leadToks, nameToks, methodsToks, level, Formed, FormedArgs, FormedMethods, operand, test, item, sequence}
 use Rattle.grammar.specs.Role.{Role, Leaf, Opening, Joint, Stop, role, leafTree, code, on}
-use Rattle.grammar.specs.Machine.{Target, targetOf, Callee, call, Bracket, Context, room, Place, State, closes, ending, next, assign, opens, joins, begins, follows, naming, only, either, argues, lists, defines, takes, step}
+use Rattle.grammar.specs.Machine.{Target, targetOf, Callee, call, Bracket, Context, room, Stage, State, closes, ending, next, assign, opens, joins, begins, follows, naming, only, either, argues, lists, defines, takes, step}
 use Rattle.grammar.proofs.Tokens.{leafToken, openingToken, jointToken, stopToken, token, token-role, same-stop, leadNames, names-last, lead-last, methods-last, formed-last}
 
 abbrev pub calleeToks : Callee → List Terminal → List Terminal
@@ -44,19 +44,19 @@ readK (Context.value t k) r = readK k (targetToken t ∷ symbol sign.Equals ∷ 
 readK (Context.rest e k) r = readK k (toks e (symbol sign.Semicolon ∷ r))
 readK (Context.within b k) r = readK k (bracketToks b r)
 
-abbrev pub readAt : Place → List Terminal → List Terminal
-readAt Place.start r = r
-readAt Place.class r = keyword word.Class ∷ r
-readAt (Place.className c) r = keyword word.Class ∷ identifier c ∷ r
-readAt (Place.less c) r = keyword word.Class ∷ identifier c ∷ symbol sign.Less ∷ r
-readAt (Place.parent c p) r = keyword word.Class ∷ identifier c ∷ symbol sign.Less ∷ identifier p ∷ r
-readAt (Place.members c) r = headToks c r
-readAt (Place.def c) r = headToks c (keyword word.Def ∷ r)
-readAt (Place.methodName c m) r = headToks c (keyword word.Def ∷ identifier m ∷ r)
-readAt (Place.open′ c m) r = headToks c (keyword word.Def ∷ identifier m ∷ symbol sign.OpenParen ∷ r)
-readAt (Place.parameter c m ps p) r = headToks c (keyword word.Def ∷ identifier m ∷ symbol sign.OpenParen ∷ leadNames ps (identifier p ∷ r))
-readAt (Place.comma c m ps) r = headToks c (keyword word.Def ∷ identifier m ∷ symbol sign.OpenParen ∷ leadNames ps r)
-readAt (Place.end c) r = headToks c (keyword word.End ∷ r)
+abbrev pub readAt : Stage → List Terminal → List Terminal
+readAt Stage.start r = r
+readAt Stage.class r = keyword word.Class ∷ r
+readAt (Stage.className c) r = keyword word.Class ∷ identifier c ∷ r
+readAt (Stage.less c) r = keyword word.Class ∷ identifier c ∷ symbol sign.Less ∷ r
+readAt (Stage.parent c p) r = keyword word.Class ∷ identifier c ∷ symbol sign.Less ∷ identifier p ∷ r
+readAt (Stage.members c) r = headToks c r
+readAt (Stage.def c) r = headToks c (keyword word.Def ∷ r)
+readAt (Stage.methodName c m) r = headToks c (keyword word.Def ∷ identifier m ∷ r)
+readAt (Stage.open′ c m) r = headToks c (keyword word.Def ∷ identifier m ∷ symbol sign.OpenParen ∷ r)
+readAt (Stage.parameter c m ps p) r = headToks c (keyword word.Def ∷ identifier m ∷ symbol sign.OpenParen ∷ leadNames ps (identifier p ∷ r))
+readAt (Stage.comma c m ps) r = headToks c (keyword word.Def ∷ identifier m ∷ symbol sign.OpenParen ∷ leadNames ps r)
+readAt (Stage.end c) r = headToks c (keyword word.End ∷ r)
 
 -- what was read, with r behind it
 abbrev pub read : State → List Terminal → List Terminal
@@ -89,19 +89,19 @@ FineK κ (Context.value t k) = FineK κ k
 FineK κ (Context.rest e k) = (level e ≤ item) × Formed e × (sequence ≤ room k) × FineK κ k
 FineK κ (Context.within b k) = FineBracket b × FineK κ k
 
-abbrev pub FineAt : Place → Type 0
-FineAt Place.start = Unit {0}
-FineAt Place.class = Unit {0}
-FineAt (Place.className c) = Unit {0}
-FineAt (Place.less c) = Unit {0}
-FineAt (Place.parent c p) = Unit {0}
-FineAt (Place.members c) = FormedMethods (c .methods)
-FineAt (Place.def c) = FormedMethods (c .methods)
-FineAt (Place.methodName c m) = FormedMethods (c .methods)
-FineAt (Place.open′ c m) = FormedMethods (c .methods)
-FineAt (Place.parameter c m ps p) = FormedMethods (c .methods)
-FineAt (Place.comma c m ps) = FormedMethods (c .methods)
-FineAt (Place.end c) = FormedMethods (c .methods)
+abbrev pub FineAt : Stage → Type 0
+FineAt Stage.start = Unit {0}
+FineAt Stage.class = Unit {0}
+FineAt (Stage.className c) = Unit {0}
+FineAt (Stage.less c) = Unit {0}
+FineAt (Stage.parent c p) = Unit {0}
+FineAt (Stage.members c) = FormedMethods (c .methods)
+FineAt (Stage.def c) = FormedMethods (c .methods)
+FineAt (Stage.methodName c m) = FormedMethods (c .methods)
+FineAt (Stage.open′ c m) = FormedMethods (c .methods)
+FineAt (Stage.parameter c m ps p) = FormedMethods (c .methods)
+FineAt (Stage.comma c m ps) = FormedMethods (c .methods)
+FineAt (Stage.end c) = FormedMethods (c .methods)
 
 abbrev pub Fine : Kind → State → Type 0
 Fine κ (State.want k) = FineK κ k
@@ -247,29 +247,29 @@ module _ (κ : Kind) where
   argues-leads f k (Role.joint j) ff fk = tt
   argues-leads f k (Role.stop s) ff fk = on-leads Stop.close s (λ z r. read (State.opened f k) (z ∷ r)) _ none (called f Args.none k, called-fine f Args.none k ff tt fk) tt
 
-  lists-leads : (c : BareClass) (m : List ℕ) (ρ : Role) → κ ≡ Kind.class → FormedMethods (c .methods) → Leads κ (λ r. readAt (Place.open′ c m) (token ρ ∷ r)) (lists c m ρ)
+  lists-leads : (c : BareClass) (m : List ℕ) (ρ : Role) → κ ≡ Kind.class → FormedMethods (c .methods) → Leads κ (λ r. readAt (Stage.open′ c m) (token ρ ∷ r)) (lists c m ρ)
   lists-leads c m (Role.name x) q fc = (λ r. refl, (q, fc))
   lists-leads c m (Role.leaf l) q fc = tt
   lists-leads c m (Role.opening o) q fc = tt
   lists-leads c m (Role.joint j) q fc = tt
-  lists-leads c m (Role.stop s) q fc = on-leads Stop.close s (λ z r. readAt (Place.open′ c m) (z ∷ r)) _ none (λ r. refl, (q, fc)) tt
+  lists-leads c m (Role.stop s) q fc = on-leads Stop.close s (λ z r. readAt (Stage.open′ c m) (z ∷ r)) _ none (λ r. refl, (q, fc)) tt
 
-  defines-leads : (p : Place) (ρ : Role) → κ ≡ Kind.class → FineAt p → Leads κ (λ r. readAt p (token ρ ∷ r)) (defines p ρ)
-  defines-leads Place.start ρ q h = only-leads Stop.class _ (λ z r. readAt Place.start (z ∷ r)) (λ r. refl, (q, tt)) ρ
-  defines-leads Place.class ρ q h = naming-leads _ (λ z r. readAt Place.class (z ∷ r)) (λ c. (λ r. refl, (q, tt))) ρ
-  defines-leads (Place.className c) ρ q h = only-leads Stop.less _ (λ z r. readAt (Place.className c) (z ∷ r)) (λ r. refl, (q, tt)) ρ
-  defines-leads (Place.less c) ρ q h = naming-leads _ (λ z r. readAt (Place.less c) (z ∷ r)) (λ p. (λ r. refl, (q, tt))) ρ
-  defines-leads (Place.parent c p) ρ q h = only-leads Stop.begin _ (λ z r. readAt (Place.parent c p) (z ∷ r)) (λ r. refl, (q, tt)) ρ
-  defines-leads (Place.members c) ρ q h = either-leads Stop.def _ Stop.end _ (λ z r. readAt (Place.members c) (z ∷ r)) (λ r. refl, (q, h)) (λ r. refl, (q, h)) ρ
-  defines-leads (Place.def c) ρ q h = naming-leads _ (λ z r. readAt (Place.def c) (z ∷ r)) (λ m. (λ r. refl, (q, h))) ρ
-  defines-leads (Place.methodName c m) ρ q h = only-leads Stop.open′ _ (λ z r. readAt (Place.methodName c m) (z ∷ r)) (λ r. refl, (q, h)) ρ
-  defines-leads (Place.open′ c m) ρ q h = lists-leads c m ρ q h
-  defines-leads (Place.parameter c m ps p) ρ q h =
-      either-leads Stop.close _ Stop.comma _ (λ z r. readAt (Place.parameter c m ps p) (z ∷ r))
-      (λ r. ap (λ z. readAt (Place.open′ c m) z) (sym (names-last ps p (symbol sign.CloseParen ∷ r))), (q, h))
-      (λ r. ap (λ z. readAt (Place.open′ c m) z) (sym (lead-last ps p r)), (q, h)) ρ
-  defines-leads (Place.comma c m ps) ρ q h = naming-leads _ (λ z r. readAt (Place.comma c m ps) (z ∷ r)) (λ p. (λ r. refl, (q, h))) ρ
-  defines-leads (Place.end c) ρ q h = tt
+  defines-leads : (p : Stage) (ρ : Role) → κ ≡ Kind.class → FineAt p → Leads κ (λ r. readAt p (token ρ ∷ r)) (defines p ρ)
+  defines-leads Stage.start ρ q h = only-leads Stop.class _ (λ z r. readAt Stage.start (z ∷ r)) (λ r. refl, (q, tt)) ρ
+  defines-leads Stage.class ρ q h = naming-leads _ (λ z r. readAt Stage.class (z ∷ r)) (λ c. (λ r. refl, (q, tt))) ρ
+  defines-leads (Stage.className c) ρ q h = only-leads Stop.less _ (λ z r. readAt (Stage.className c) (z ∷ r)) (λ r. refl, (q, tt)) ρ
+  defines-leads (Stage.less c) ρ q h = naming-leads _ (λ z r. readAt (Stage.less c) (z ∷ r)) (λ p. (λ r. refl, (q, tt))) ρ
+  defines-leads (Stage.parent c p) ρ q h = only-leads Stop.begin _ (λ z r. readAt (Stage.parent c p) (z ∷ r)) (λ r. refl, (q, tt)) ρ
+  defines-leads (Stage.members c) ρ q h = either-leads Stop.def _ Stop.end _ (λ z r. readAt (Stage.members c) (z ∷ r)) (λ r. refl, (q, h)) (λ r. refl, (q, h)) ρ
+  defines-leads (Stage.def c) ρ q h = naming-leads _ (λ z r. readAt (Stage.def c) (z ∷ r)) (λ m. (λ r. refl, (q, h))) ρ
+  defines-leads (Stage.methodName c m) ρ q h = only-leads Stop.open′ _ (λ z r. readAt (Stage.methodName c m) (z ∷ r)) (λ r. refl, (q, h)) ρ
+  defines-leads (Stage.open′ c m) ρ q h = lists-leads c m ρ q h
+  defines-leads (Stage.parameter c m ps p) ρ q h =
+      either-leads Stop.close _ Stop.comma _ (λ z r. readAt (Stage.parameter c m ps p) (z ∷ r))
+      (λ r. ap (λ z. readAt (Stage.open′ c m) z) (sym (names-last ps p (symbol sign.CloseParen ∷ r))), (q, h))
+      (λ r. ap (λ z. readAt (Stage.open′ c m) z) (sym (lead-last ps p r)), (q, h)) ρ
+  defines-leads (Stage.comma c m ps) ρ q h = naming-leads _ (λ z r. readAt (Stage.comma c m ps) (z ∷ r)) (λ p. (λ r. refl, (q, h))) ρ
+  defines-leads (Stage.end c) ρ q h = tt
 
   takes-leads : (s : State) (ρ : Role) → Fine κ s → Leads κ (λ r. read s (token ρ ∷ r)) (takes s ρ)
   takes-leads (State.want k) ρ h = begins-leads k ρ h

@@ -13,7 +13,7 @@ use Rattle.lexer.specs.declared.token.Symbol.the-variants as sign
 use Rattle.grammar.specs.Tree.{Expr, Args, Bare, BareClass}
 use Rattle.grammar.specs.Grammar.{level, operand, test, item, sequence}
 use Rattle.grammar.specs.Role.{Role, Joint, Stop, role, code, on}
-use Rattle.grammar.specs.Machine.{Target, write, targetOf, Callee, Bracket, Context, room, Place, State, Outcome, closes, ending, next, assign, naming, only, either, takes, step, over, finish, went, run}
+use Rattle.grammar.specs.Machine.{Target, write, targetOf, Callee, Bracket, Context, room, Stage, State, Outcome, closes, ending, next, assign, naming, only, either, takes, step, over, finish, went, run}
 use Rattle.grammar.specs.Following.{First, Calm, Last, NoItem, IdleRole, NoName, Unended}
 use Rattle.grammar.proofs.Tokens.{stopToken, token, token-role, same-stop}
 
@@ -170,17 +170,17 @@ either-halts s a m b n [] w e h g = e
 either-halts s a m b n (t ∷ r) w e h g = halts-at s t r (w (role t) ∙ either-none a m b n (role t) (λ q. h (sym (token-role t) ∙ q)) (λ q. g (sym (token-role t) ∙ q)))
 
 -- a method's parameters begin with neither a name nor `)`
-lists-none : (c : BareClass) (m : List ℕ) (ρ : Role) → ((x : List ℕ) → token ρ ≡ identifier x → ⊥) → (token ρ ≡ symbol sign.CloseParen → ⊥) → takes (State.define (Place.open′ c m)) ρ ≡ none
+lists-none : (c : BareClass) (m : List ℕ) (ρ : Role) → ((x : List ℕ) → token ρ ≡ identifier x → ⊥) → (token ρ ≡ symbol sign.CloseParen → ⊥) → takes (State.define (Stage.open′ c m)) ρ ≡ none
 lists-none c m (Role.name x) h g = absurd (h x refl)
 lists-none c m (Role.leaf l) h g = refl
 lists-none c m (Role.opening o) h g = refl
 lists-none c m (Role.joint j) h g = refl
 lists-none c m (Role.stop s) h g = other Stop.close s _ none g
 
-pub parameters-halt : (c : BareClass) (m : List ℕ) (r : List Terminal) → NoName r → (First (symbol sign.CloseParen) r → ⊥) → run r (State.define (Place.open′ c m)) ≡ Outcome.refused r
+pub parameters-halt : (c : BareClass) (m : List ℕ) (r : List Terminal) → NoName r → (First (symbol sign.CloseParen) r → ⊥) → run r (State.define (Stage.open′ c m)) ≡ Outcome.refused r
 unfolding run
 parameters-halt c m [] h g = refl
-parameters-halt c m (t ∷ r) h g = halts-at (State.define (Place.open′ c m)) t r (lists-none c m (role t) (λ x q. h x (sym (token-role t) ∙ q)) (λ q. g (sym (token-role t) ∙ q)))
+parameters-halt c m (t ∷ r) h g = halts-at (State.define (Stage.open′ c m)) t r (lists-none c m (role t) (λ x q. h x (sym (token-role t) ∙ q)) (λ q. g (sym (token-role t) ∙ q)))
 
 have-none : (e : Bare) (k : Context) (ρ : Role) (r : List Terminal) → Calm e (token ρ ∷ r) → Last (token ρ ∷ r) → ((s : Stop) → token ρ ≡ stopToken s → ending e k s ≡ none) → takes (State.have e k) ρ ≡ none
 have-none e k (Role.name x) r h g w = refl
@@ -227,5 +227,5 @@ rule-halts e t r h g =
     (have-none e Context.whole (role t) r (subst (λ z. Calm e (z ∷ r)) (sym (token-role t)) h) (subst (λ z. Last (z ∷ r)) (sym (token-role t)) g) (λ s q. refl))
 
 -- a class was read, and a token follows
-pub class-halts : (c : BareClass) (t : Terminal) (r : List Terminal) → run (t ∷ r) (State.define (Place.end c)) ≡ Outcome.refused (t ∷ r)
-class-halts c t r = halts-at (State.define (Place.end c)) t r refl
+pub class-halts : (c : BareClass) (t : Terminal) (r : List Terminal) → run (t ∷ r) (State.define (Stage.end c)) ≡ Outcome.refused (t ∷ r)
+class-halts c t r = halts-at (State.define (Stage.end c)) t r refl

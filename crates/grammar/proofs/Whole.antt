@@ -8,7 +8,7 @@ use native.Mathlib.Omega.{arith}
 use Rattle.lexer.specs.Token.{Terminal}
 use Rattle.grammar.specs.Tree.{Expr, Text, Bare, BareText}
 use Rattle.grammar.specs.Grammar.{Kind, toks, tokensOf, level, Formed, FormedText}
-use Rattle.grammar.specs.Machine.{Target, Context, room, Place, State, Outcome, step, over, overAt, finish, went, run, initial, parse}
+use Rattle.grammar.specs.Machine.{Target, Context, room, Stage, State, Outcome, step, over, overAt, finish, went, run, initial, parse}
 use Rattle.grammar.specs.Law.{Begins, Stuck, Refuses, HasTree, Law}
 use Rattle.grammar.proofs.Reading.{readK, readAt, read, roomy, FineK, FineAt, Fine, Leads, step-leads}
 use Rattle.grammar.proofs.Closing.{closed, closing, closed-toks, closed-formed}
@@ -39,19 +39,19 @@ over-end e (Context.value (Target.field x) k) rest q = over-end (Expr.setField t
 over-end e (Context.rest d k) rest q = over-end (Expr.seq tt d e) k rest q
 over-end e (Context.within b k) rest q = cc
 
-overAt-end : (p : Place) (rest : List Terminal) → overAt p ≡ Outcome.refused rest → [] ≡ rest
-overAt-end Place.start rest q = cc
-overAt-end Place.class rest q = cc
-overAt-end (Place.className c) rest q = cc
-overAt-end (Place.less c) rest q = cc
-overAt-end (Place.parent c p) rest q = cc
-overAt-end (Place.members c) rest q = cc
-overAt-end (Place.def c) rest q = cc
-overAt-end (Place.methodName c m) rest q = cc
-overAt-end (Place.open′ c m) rest q = cc
-overAt-end (Place.parameter c m ps p) rest q = cc
-overAt-end (Place.comma c m ps) rest q = cc
-overAt-end (Place.end c) rest q = cc
+overAt-end : (p : Stage) (rest : List Terminal) → overAt p ≡ Outcome.refused rest → [] ≡ rest
+overAt-end Stage.start rest q = cc
+overAt-end Stage.class rest q = cc
+overAt-end (Stage.className c) rest q = cc
+overAt-end (Stage.less c) rest q = cc
+overAt-end (Stage.parent c p) rest q = cc
+overAt-end (Stage.members c) rest q = cc
+overAt-end (Stage.def c) rest q = cc
+overAt-end (Stage.methodName c m) rest q = cc
+overAt-end (Stage.open′ c m) rest q = cc
+overAt-end (Stage.parameter c m ps p) rest q = cc
+overAt-end (Stage.comma c m ps) rest q = cc
+overAt-end (Stage.end c) rest q = cc
 
 finish-end : (s : State) (rest : List Terminal) → finish s ≡ Outcome.refused rest → [] ≡ rest
 finish-end (State.want k) rest q = cc
@@ -103,19 +103,19 @@ module _ (κ : Kind) where
   over-held e (Context.rest d k) t q fe h fk = over-held (Expr.seq tt d e) k t q (fk .0, fk .1, fe) (fk .2) (fk .3)
   over-held e (Context.within b k) t q fe h fk = let z : _≡_ {A = ℕ} 0 1 = cc in absurd (omega arith)
 
-  overAt-held : (p : Place) (t : BareText) → overAt p ≡ Outcome.accepted t → κ ≡ Kind.class → FineAt p → FormedText κ t × (tokensOf t ≡ readAt p [])
-  overAt-held Place.start t q κc h = let z : _≡_ {A = ℕ} 0 1 = cc in absurd (omega arith)
-  overAt-held Place.class t q κc h = let z : _≡_ {A = ℕ} 0 1 = cc in absurd (omega arith)
-  overAt-held (Place.className c) t q κc h = let z : _≡_ {A = ℕ} 0 1 = cc in absurd (omega arith)
-  overAt-held (Place.less c) t q κc h = let z : _≡_ {A = ℕ} 0 1 = cc in absurd (omega arith)
-  overAt-held (Place.parent c p) t q κc h = let z : _≡_ {A = ℕ} 0 1 = cc in absurd (omega arith)
-  overAt-held (Place.members c) t q κc h = let z : _≡_ {A = ℕ} 0 1 = cc in absurd (omega arith)
-  overAt-held (Place.def c) t q κc h = let z : _≡_ {A = ℕ} 0 1 = cc in absurd (omega arith)
-  overAt-held (Place.methodName c m) t q κc h = let z : _≡_ {A = ℕ} 0 1 = cc in absurd (omega arith)
-  overAt-held (Place.open′ c m) t q κc h = let z : _≡_ {A = ℕ} 0 1 = cc in absurd (omega arith)
-  overAt-held (Place.parameter c m ps p) t q κc h = let z : _≡_ {A = ℕ} 0 1 = cc in absurd (omega arith)
-  overAt-held (Place.comma c m ps) t q κc h = let z : _≡_ {A = ℕ} 0 1 = cc in absurd (omega arith)
-  overAt-held (Place.end c) t q κc h = let z : Text.class c ≡ t = cc in (subst (FormedText κ) z (κc, h), ap tokensOf (sym z))
+  overAt-held : (p : Stage) (t : BareText) → overAt p ≡ Outcome.accepted t → κ ≡ Kind.class → FineAt p → FormedText κ t × (tokensOf t ≡ readAt p [])
+  overAt-held Stage.start t q κc h = let z : _≡_ {A = ℕ} 0 1 = cc in absurd (omega arith)
+  overAt-held Stage.class t q κc h = let z : _≡_ {A = ℕ} 0 1 = cc in absurd (omega arith)
+  overAt-held (Stage.className c) t q κc h = let z : _≡_ {A = ℕ} 0 1 = cc in absurd (omega arith)
+  overAt-held (Stage.less c) t q κc h = let z : _≡_ {A = ℕ} 0 1 = cc in absurd (omega arith)
+  overAt-held (Stage.parent c p) t q κc h = let z : _≡_ {A = ℕ} 0 1 = cc in absurd (omega arith)
+  overAt-held (Stage.members c) t q κc h = let z : _≡_ {A = ℕ} 0 1 = cc in absurd (omega arith)
+  overAt-held (Stage.def c) t q κc h = let z : _≡_ {A = ℕ} 0 1 = cc in absurd (omega arith)
+  overAt-held (Stage.methodName c m) t q κc h = let z : _≡_ {A = ℕ} 0 1 = cc in absurd (omega arith)
+  overAt-held (Stage.open′ c m) t q κc h = let z : _≡_ {A = ℕ} 0 1 = cc in absurd (omega arith)
+  overAt-held (Stage.parameter c m ps p) t q κc h = let z : _≡_ {A = ℕ} 0 1 = cc in absurd (omega arith)
+  overAt-held (Stage.comma c m ps) t q κc h = let z : _≡_ {A = ℕ} 0 1 = cc in absurd (omega arith)
+  overAt-held (Stage.end c) t q κc h = let z : Text.class c ≡ t = cc in (subst (FormedText κ) z (κc, h), ap tokensOf (sym z))
 
   finish-held : (s : State) (t : BareText) → finish s ≡ Outcome.accepted t → Fine κ s → FormedText κ t × (tokensOf t ≡ read s [])
   finish-held (State.want k) t q h = let z : _≡_ {A = ℕ} 0 1 = cc in absurd (omega arith)

@@ -26,6 +26,7 @@ pub record Calm (e : Bare) (r : List Terminal) : Type 0 where
 abbrev pub Last : List Terminal → Type 0
 Last r = First (symbol sign.Semicolon) r → ⊥
 
+-- no item begins with a token of that role
 abbrev pub IdleRole : Role → Type 0
 IdleRole (Role.name x) = ⊥
 IdleRole (Role.leaf l) = ⊥

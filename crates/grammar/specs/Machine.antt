@@ -14,10 +14,12 @@ pub data Target : Type 0 where
   local : List ℕ → Target
   field : List ℕ → Target
 
+-- the target, `=` and a value
 abbrev pub write : Target → Bare → Bare
 write (Target.local x) e = Expr.setLocal tt x e
 write (Target.field x) e = Expr.setField tt x e
 
+-- what an expression of one token can be written to; no other can
 abbrev pub targetOf : Bare → Option Target
 targetOf (Expr.int a w) = none
 targetOf (Expr.nil a) = none
@@ -39,6 +41,7 @@ pub data Callee : Type 0 where
   method : Bare → List ℕ → Callee
   new : List ℕ → Callee
 
+-- the callee with its arguments
 abbrev pub call : Callee → BareArgs → Bare
 call (Callee.method e m) xs = Expr.invoke tt e m xs
 call (Callee.new c) xs = Expr.new tt c xs
@@ -73,22 +76,23 @@ room (Context.rest e k) = sequence
 room (Context.within b k) = sequence
 
 -- where a class stands outside the bodies of its methods, by what was read last
-pub data Place : Type 0 where
-  start : Place
-  class : Place
-  className : List ℕ → Place
-  less : List ℕ → Place
-  parent : List ℕ → List ℕ → Place
+pub data Stage : Type 0 where
+  start : Stage
+  class : Stage
+  className : List ℕ → Stage
+  less : List ℕ → Stage
+  parent : List ℕ → List ℕ → Stage
   -- `begin`, or a method
-  members : BareClass → Place
-  def : BareClass → Place
-  methodName : BareClass → List ℕ → Place
-  open′ : BareClass → List ℕ → Place
-  parameter : BareClass → List ℕ → List (List ℕ) → List ℕ → Place
-  comma : BareClass → List ℕ → List (List ℕ) → Place
+  members : BareClass → Stage
+  def : BareClass → Stage
+  methodName : BareClass → List ℕ → Stage
+  open′ : BareClass → List ℕ → Stage
+  parameter : BareClass → List ℕ → List (List ℕ) → List ℕ → Stage
+  comma : BareClass → List ℕ → List (List ℕ) → Stage
   -- the last `end`
-  end : BareClass → Place
+  end : BareClass → Stage
 
+-- what was read of the text, by what is wanted next
 pub data State : Type 0 where
   -- an item is wanted
   want : Context → State
@@ -104,8 +108,10 @@ pub data State : Type 0 where
   named : Callee → Context → State
   -- behind a callee's `(`
   opened : Callee → Context → State
-  define : Place → State
+  -- in a class, outside the bodies of its methods
+  define : Stage → State
 
+-- how a run ends
 pub data Outcome : Type 0 where
   accepted : BareText → Outcome
   -- the refused token, and what is behind it
@@ -128,7 +134,7 @@ closes (Bracket.argument f xs) e k s =
 -- a sequence ends at s: what waited for it
 abbrev pub ending : Bare → Context → Stop → Option State
 ending e Context.whole s = none
-ending e (Context.body c m ps) s = on Stop.end s (some (State.define (Place.members (withMethod c m ps e)))) none
+ending e (Context.body c m ps) s = on Stop.end s (some (State.define (Stage.members (withMethod c m ps e)))) none
 ending e (Context.value t k) s = ending (write t e) k s
 ending e (Context.rest d k) s = ending (Expr.seq tt d e) k s
 ending e (Context.within b k) s = closes b e k s
@@ -146,11 +152,13 @@ abbrev pub assign : Option Target → Context → Option State
 assign none k = none
 assign (some t) k = some (State.want (Context.value t k))
 
+-- an expression of several tokens begins
 abbrev pub opens : Opening → Context → State
 opens Opening.if k = State.want (Context.within Bracket.condition k)
 opens Opening.while k = State.want (Context.within Bracket.guard k)
 opens Opening.new k = State.newed k
 
+-- an expression goes on
 abbrev pub joins : Joint → Bare → Context → Option State
 joins Joint.semicolon e k = some (next e k)
 joins Joint.equals e k = assign (targetOf e) k
@@ -207,28 +215,29 @@ argues f k (Role.stop s) = on Stop.close s (some (State.have (call f Args.none) 
 
 -- the first parameter, or `)`
 abbrev pub lists : BareClass → List ℕ → Role → Option State
-lists c m (Role.name x) = some (State.define (Place.parameter c m [] x))
+lists c m (Role.name x) = some (State.define (Stage.parameter c m [] x))
 lists c m (Role.leaf l) = none
 lists c m (Role.opening o) = none
 lists c m (Role.joint j) = none
 lists c m (Role.stop s) = on Stop.close s (some (State.want (Context.body c m []))) none
 
 -- a token of a class, outside the bodies
-abbrev pub defines : Place → Role → Option State
-defines Place.start ρ = only Stop.class (State.define Place.class) ρ
-defines Place.class ρ = naming (λ c. State.define (Place.className c)) ρ
-defines (Place.className c) ρ = only Stop.less (State.define (Place.less c)) ρ
-defines (Place.less c) ρ = naming (λ p. State.define (Place.parent c p)) ρ
-defines (Place.parent c p) ρ = only Stop.begin (State.define (Place.members (record { name = c; parent = p; methods = [] }))) ρ
-defines (Place.members c) ρ = either Stop.def (State.define (Place.def c)) Stop.end (State.define (Place.end c)) ρ
-defines (Place.def c) ρ = naming (λ m. State.define (Place.methodName c m)) ρ
-defines (Place.methodName c m) ρ = only Stop.open′ (State.define (Place.open′ c m)) ρ
-defines (Place.open′ c m) ρ = lists c m ρ
-defines (Place.parameter c m ps p) ρ =
-    either Stop.close (State.want (Context.body c m (ps ++ (p ∷ [])))) Stop.comma (State.define (Place.comma c m (ps ++ (p ∷ [])))) ρ
-defines (Place.comma c m ps) ρ = naming (λ p. State.define (Place.parameter c m ps p)) ρ
-defines (Place.end c) ρ = none
+abbrev pub defines : Stage → Role → Option State
+defines Stage.start ρ = only Stop.class (State.define Stage.class) ρ
+defines Stage.class ρ = naming (λ c. State.define (Stage.className c)) ρ
+defines (Stage.className c) ρ = only Stop.less (State.define (Stage.less c)) ρ
+defines (Stage.less c) ρ = naming (λ p. State.define (Stage.parent c p)) ρ
+defines (Stage.parent c p) ρ = only Stop.begin (State.define (Stage.members (record { name = c; parent = p; methods = [] }))) ρ
+defines (Stage.members c) ρ = either Stop.def (State.define (Stage.def c)) Stop.end (State.define (Stage.end c)) ρ
+defines (Stage.def c) ρ = naming (λ m. State.define (Stage.methodName c m)) ρ
+defines (Stage.methodName c m) ρ = only Stop.open′ (State.define (Stage.open′ c m)) ρ
+defines (Stage.open′ c m) ρ = lists c m ρ
+defines (Stage.parameter c m ps p) ρ =
+    either Stop.close (State.want (Context.body c m (ps ++ (p ∷ [])))) Stop.comma (State.define (Stage.comma c m (ps ++ (p ∷ [])))) ρ
+defines (Stage.comma c m ps) ρ = naming (λ p. State.define (Stage.parameter c m ps p)) ρ
+defines (Stage.end c) ρ = none
 
+-- the state after a token of that role, if it may come
 abbrev pub takes : State → Role → Option State
 takes (State.want k) ρ = begins k ρ
 takes (State.have e k) ρ = follows e k ρ
@@ -239,6 +248,7 @@ takes (State.named f k) ρ = only Stop.open′ (State.opened f k) ρ
 takes (State.opened f k) ρ = argues f k ρ
 takes (State.define p) ρ = defines p ρ
 
+-- the state after the token, if it may come
 abbrev pub step : State → Terminal → Option State
 step s t = takes s (role t)
 
@@ -251,19 +261,19 @@ over e (Context.rest d k) = over (Expr.seq tt d e) k
 over e (Context.within b k) = Outcome.refused []
 
 -- the text ends outside the bodies of a class
-abbrev pub overAt : Place → Outcome
-overAt Place.start = Outcome.refused []
-overAt Place.class = Outcome.refused []
-overAt (Place.className c) = Outcome.refused []
-overAt (Place.less c) = Outcome.refused []
-overAt (Place.parent c p) = Outcome.refused []
-overAt (Place.members c) = Outcome.refused []
-overAt (Place.def c) = Outcome.refused []
-overAt (Place.methodName c m) = Outcome.refused []
-overAt (Place.open′ c m) = Outcome.refused []
-overAt (Place.parameter c m ps p) = Outcome.refused []
-overAt (Place.comma c m ps) = Outcome.refused []
-overAt (Place.end c) = Outcome.accepted (Text.class c)
+abbrev pub overAt : Stage → Outcome
+overAt Stage.start = Outcome.refused []
+overAt Stage.class = Outcome.refused []
+overAt (Stage.className c) = Outcome.refused []
+overAt (Stage.less c) = Outcome.refused []
+overAt (Stage.parent c p) = Outcome.refused []
+overAt (Stage.members c) = Outcome.refused []
+overAt (Stage.def c) = Outcome.refused []
+overAt (Stage.methodName c m) = Outcome.refused []
+overAt (Stage.open′ c m) = Outcome.refused []
+overAt (Stage.parameter c m ps p) = Outcome.refused []
+overAt (Stage.comma c m ps) = Outcome.refused []
+overAt (Stage.end c) = Outcome.accepted (Text.class c)
 
 -- the text ends
 abbrev pub finish : State → Outcome
@@ -281,6 +291,7 @@ abbrev pub went : (State → Outcome) → List Terminal → Option State → Out
 went again ts none = Outcome.refused ts
 went again ts (some s) = again s
 
+-- the tokens in order, up to the first that may not come
 unfoldable pub run : List Terminal → State → Outcome
 run [] s = finish s
 run (t ∷ ts) s = went (run ts) (t ∷ ts) (step s t)
@@ -288,7 +299,8 @@ run (t ∷ ts) s = went (run ts) (t ∷ ts) (step s t)
 -- where a text of that kind begins
 abbrev pub initial : Kind → State
 initial Kind.rule = State.want Context.whole
-initial Kind.class = State.define Place.start
+initial Kind.class = State.define Stage.start
 
+-- what the machine says of a text's tokens
 abbrev pub parse : Kind → List Terminal → Outcome
 parse κ ts = run ts (initial κ)

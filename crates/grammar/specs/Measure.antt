@@ -38,6 +38,7 @@ abbrev pub methodNodes : {A : Type 0} → List (Method A) → ℕ
 methodNodes [] = 0
 methodNodes (m ∷ ms) = nodes (m .body) + methodNodes ms
 
+-- the nodes of a text; definitions of classes and methods are none
 abbrev pub textNodes : {A : Type 0} → Text A → ℕ
 textNodes (Text.rule e) = nodes e
 textNodes (Text.class c) = methodNodes (c .methods)
@@ -125,6 +126,7 @@ abbrev pub valueOf : List ℕ → ℤ
 valueOf [] = pos 0
 valueOf (b ∷ bs) = cond (eqb b minus) (negℤ (pos (digitsFrom 0 bs))) (pos (digitsFrom 0 (b ∷ bs)))
 
+-- the integer is one of 32 bits
 abbrev pub Fits : List ℕ → Type 0
 Fits w = (smallestInteger ≤ℤ valueOf w) × (valueOf w ≤ℤ largestInteger)
 
@@ -150,6 +152,7 @@ abbrev mutual
   IntegersFitIn Args.none = Unit {0}
   IntegersFitIn (Args.more xs e) = IntegersFitIn xs × IntegersFit e
 
+-- the name is among these
 abbrev pub known : List (List ℕ) → List ℕ → Bool
 known [] x = false
 known (y ∷ ys) x = sameBytes y x || known ys x
@@ -158,6 +161,7 @@ known (y ∷ ys) x = sameBytes y x || known ys x
 abbrev pub learn : List (List ℕ) → List ℕ → List (List ℕ)
 learn ns x = cond (known ns x) ns (ns ++ (x ∷ []))
 
+-- the names with each of xs that is not among them
 abbrev pub learnAll : List (List ℕ) → List (List ℕ) → List (List ℕ)
 learnAll ns [] = ns
 learnAll ns (x ∷ xs) = learnAll (learn ns x) xs

@@ -45,6 +45,7 @@ abbrev mutual
   forgetArgs Args.none = Args.none
   forgetArgs (Args.more xs e) = Args.more (forgetArgs xs) (forget e)
 
+-- methods without their notes
 abbrev pub forgetMethods : {A : Type 0} → List (Method A) → List BareMethod
 forgetMethods [] = []
 forgetMethods (m ∷ ms) = record { name = m .name; parameters = m .parameters; body = forget (m .body) } ∷ forgetMethods ms
@@ -124,11 +125,13 @@ pastNames [] ns = ns
 pastNames (x ∷ []) ns = drop 1 ns
 pastNames (x ∷ y ∷ ys) ns = pastNames (y ∷ ys) (drop 2 ns)
 
+-- a method with the notes of its tokens
 abbrev pub annotateMethod : {A : Type 0} → A → BareMethod → List A → Noted (Method A) A
 annotateMethod d m ns =
     let v = annotate d (m .body) (drop 1 (pastNames (m .parameters) (drop 3 ns))) in
     record { tree = record { name = m .name; parameters = m .parameters; body = v .tree }; rest = drop 1 (v .rest) }
 
+-- methods, one behind another
 abbrev pub annotateMethods : {A : Type 0} → A → List BareMethod → List A → Noted (List (Method A)) A
 annotateMethods d [] ns = record { tree = []; rest = ns }
 annotateMethods d (m ∷ ms) ns =

@@ -43,6 +43,7 @@ pub data Stop : Type 0 where
   begin : Stop
   def : Stop
 
+-- the five groups
 pub data Role : Type 0 where
   -- a name, or a local by itself
   name : List ℕ → Role
@@ -51,6 +52,7 @@ pub data Role : Type 0 where
   joint : Joint → Role
   stop : Stop → Role
 
+-- each token's role
 abbrev pub role : Terminal → Role
 role (Terminal.identifier x) = Role.name x
 role (Terminal.integer w) = Role.leaf (Leaf.int w)
@@ -85,6 +87,7 @@ leafTree (Leaf.field x) = Expr.field tt x
 leafTree Leaf.nil = Expr.nil tt
 leafTree Leaf.self = Expr.self tt
 
+-- a number for each, to compare them by
 abbrev pub code : Stop → ℕ
 code Stop.then = 0
 code Stop.else = 1
