@@ -1,0 +1,10 @@
+pub mod Tree
+pub mod Grammar
+pub mod Role
+pub mod Machine
+pub mod Law
+pub mod Following
+pub mod Notes
+pub mod Limits
+pub mod Measure
+pub mod Samples
