@@ -67,10 +67,10 @@ pub length-string : (w : List ℕ) → length (spelling (string w)) ≡ length w
 length-string w = simp length-append (omega arith)
 
 -- the byte behind a `-` decides
-pub minus-by : (text : List ℕ) (from d : ℕ) (t : Bool) → d ≡ getD text (from + 1) 0 → t ≡ goesOn Digits d
+pub minus-by : (text : List ℕ) (from : ℕ) (t : Bool) → t ≡ digit (getD text (from + 1) 0)
     → minusOf (getD text from 0) (drop (from + 1) text) ≡ cond t (integerOf (getD text from 0) (drop (from + 1) text)) (wordOf (getD text from 0) (drop (from + 1) text))
-minus-by text from d t e h =
-    let r : getD (drop (from + 1) text) 0 0 ≡ d = getD-drop (from + 1) text 0 0 ∙ ap (λ n. getD text n 0) (add-zero (from + 1)) ∙ sym e in
+minus-by text from t h =
+    let r : getD (drop (from + 1) text) 0 0 ≡ getD text (from + 1) 0 = getD-drop (from + 1) text 0 0 ∙ ap (λ n. getD text n 0) (add-zero (from + 1)) in
     ap (λ b. cond b (integerOf (getD text from 0) (drop (from + 1) text)) (wordOf (getD text from 0) (drop (from + 1) text))) (ap digit r ∙ sym h)
 
 -- the kind of the first byte decides

@@ -2,7 +2,7 @@
 ghost use mathlib.Core.Path.{_≡_};
 ghost use Prim.Native.Nat.{ℕ, _+_, _<_, _≤_};
 ghost use lib.ListN.{length, getD, drop};
-ghost use Rattle.lexer.specs.Byte.{goesOn};
+ghost use Rattle.lexer.specs.Byte.{digit, goesOn};
 ghost use Rattle.std.specs.declared.option.Option.the-variants.{Some};
 ghost use Rattle.std.specs.Options.{isSome};
 ghost use Rattle.std.specs.shelf.Text.{sameBytes};
@@ -165,12 +165,18 @@ fn byte_at(text: &[u8], i: usize) -> u8
     if i < text.len() { text[i] } else { 0 }
 }
 
+fn is_digit_at(text: &[u8], i: usize) -> bool
+    ensures reads_that_byte { λ r. ⌜ r ≡ digit (getD (now (text .entry)) i 0) ⌝ }
+{
+    goes_on(Run::Digits, byte_at(text, i))
+}
+
 // A `-` begins an integer exactly where a digit follows.
 fn minus_at<'a>(text: &'a [u8], from: usize) -> Lexed<'a>
     requires { ⌜ from < length (now text) ⌝ }
     ensures integer_before_a_digit { λ r. ⌜ lexed r ≡ placed from (Some (minusOf (getD (now (text .entry)) from 0) (drop (from + 1) (now (text .entry))))) ⌝ }
 {
-    if goes_on(Run::Digits, byte_at(text, from + 1)) {
+    if is_digit_at(text, from + 1) {
         integer_at(text, from)
     } else {
         word_at(text, from)
