@@ -14,10 +14,10 @@ use Rattle.std.specs.declared.option.Option.the-variants.{Some, None}
 use Rattle.std.proofs.shelf.Counted.{length-map-counting, getD-map-counting, map-counting-more}
 use Rattle.std.proofs.shelf.Elements.{all-weaker}
 use Rattle.std.proofs.shelf.Lists.{same-lists, getD-past, length-set, getD-set-same, getD-set-other}
-use Rattle.std.proofs.shelf.Tests.{cases-eq, cases-lt, eq-eqb, ne-eqb, lt-ltb, le-ltb}
+use Rattle.std.proofs.shelf.Tests.{cases-eq, cases-lt, eq-eqb, ne-eqb}
 use Rattle.text.specs.First.{firstPlace}
 use Rattle.store.specs.Val.{Val}
-use Rattle.store.specs.Tables.{Table, Tables, look, put, pairs, made, read, takes, write}
+use Rattle.store.specs.Tables.{Table, Tables, look, put, pairs, read, write}
 use Rattle.store.specs.Filed.{Filed, fits, rowOf, tablesOf, Files}
 use Rattle.store.proofs.Tables.{pairs-set}
 use Rattle.store.proofs.Rows.{file, seek, seek-found, seek-none, look-row, row-file, row-file-other}
@@ -111,12 +111,6 @@ module _ (es : List Filed) (n : ℕ) (T : Tables) (f : Files es n T) where
         ∙ sym (map-counting-more (rowOf es) 0 n n (omega arith) ∙ ap (λ (r : Table). tablesOf es n ++ r ∷ []) (row-high es n n (f .low) (omega arith)));
     low = all-weaker (λ (e : Filed). e .0 .0 < n) (λ (e : Filed). e .0 .0 < n + 1) (λ e h. omega arith) es (f .low);
   }
-
-  pub files-made : (l : ℕ) → l < n → made T l ≡ true
-  files-made l h = lt-ltb l (length T) (omega (arith, files-length))
-
-  pub files-unmade : (l : ℕ) → n ≤ l → made T l ≡ false
-  files-unmade l h = le-ltb l (length T) (omega (arith, files-length))
 
   module _ (l : ℕ) (k : Val) where
     -- a read finds the first pair that fits

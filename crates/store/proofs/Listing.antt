@@ -11,18 +11,20 @@ use Rattle.std.specs.declared.option.Option.{Option}
 use Rattle.std.specs.declared.option.Option.the-variants.{Some, None}
 use Rattle.std.proofs.shelf.Elements.{all-weaker, all-set, all-push, all-getD}
 use Rattle.std.proofs.shelf.Lists.{length-take-le, getD-take, take-more-set}
+use Rattle.std.proofs.shelf.Tests.{lt-ltb, le-ltb}
 use Rattle.text.specs.Memory.{Memory}
 use Rattle.text.specs.Agree.{Grown}
 use Rattle.text.specs.First.{later, firstPlace}
 use Rattle.store.specs.declared.key.Key.{Key}
+use Rattle.store.specs.declared.list.ListStore.{ListStore}
 use Rattle.store.specs.declared.value.Value.{Value}
 use Rattle.store.specs.Val.{Val, meaning, endOf}
-use Rattle.store.specs.Tables.{Tables, pairs, read, write}
+use Rattle.store.specs.Tables.{Tables, pairs, made, read, write}
 use Rattle.store.specs.Filed.{Filed, placeOf, samePlace, fits, Files}
 use Rattle.store.specs.Listed.{filed, Holds, Inside}
 use Rattle.store.proofs.Values.{meaning-grown}
 use Rattle.store.proofs.Rows.{file, file-found, file-none}
-use Rattle.store.proofs.Filing.{files-none, files-found, files-nothing, files-file, files-pairs}
+use Rattle.store.proofs.Filing.{files-none, files-length, files-pairs, files-make, files-found, files-nothing, files-file}
 
 module _ (m : Memory) where
   length-filed : (ks : List Key) (vs : List Value) → length ks ≡ length vs → length (filed m ks vs) ≡ length ks
@@ -80,60 +82,92 @@ inside-wider ks vs len u v h a = (
   all-weaker (λ (x : Value). endOf x ≤ u) (λ (x : Value). endOf x ≤ v) (λ x q. omega arith) (take len vs) (a .1),
 )
 
--- over slices of which the first len count
-module _ (ks : List Key) (vs : List Value) (len : ℕ) (keyed : len ≤ length ks) (valued : len ≤ length vs) where
-  even : length (take len ks) ≡ length (take len vs)
-  even = length-take-le len ks keyed ∙ sym (length-take-le len vs valued)
+-- over a store's slices, of which the first len count
+module _ (s : ListStore) where
+  keys-fit : s .len ≤ length (s .keys .now)
+  keys-fit = omega (arith, s .keyed, s .filled)
 
-  pub holds-pairs : (n : ℕ) (m : Memory) (T : Tables) → Holds ks vs len n m T → pairs T ≡ len
-  holds-pairs n m T h = files-pairs (filed m (take len ks) (take len vs)) n T h ∙ length-filed m (take len ks) (take len vs) even ∙ length-take-le len ks keyed
+  values-fit : s .len ≤ length (s .values .now)
+  values-fit = omega (arith, s .valued, s .filled)
 
-  pub inside-value : (u i : ℕ) (e : Value) → i < len → Inside ks vs len u → endOf (getD vs i e) ≤ u
+  long : length (take (s .len) (s .values .now)) ≡ s .len
+  long = length-take-le (s .len) (s .values .now) values-fit
+
+  even : length (take (s .len) (s .keys .now)) ≡ length (take (s .len) (s .values .now))
+  even = length-take-le (s .len) (s .keys .now) keys-fit ∙ sym long
+
+  pub inside-value : (u i : ℕ) (e : Value) → i < s .len → Inside (s .keys .now) (s .values .now) (s .len) u → endOf (getD (s .values .now) i e) ≤ u
   inside-value u i e h a =
-      subst (λ (v : Value). endOf v ≤ u) (getD-take len vs i e h)
-      (all-getD (λ (v : Value). endOf v ≤ u) (take len vs) i e (omega (arith, length-take-le len vs valued)) (a .1))
+      subst (λ (v : Value). endOf v ≤ u) (getD-take (s .len) (s .values .now) i e h)
+      (all-getD (λ (v : Value). endOf v ≤ u) (take (s .len) (s .values .now)) i e (omega (arith, long)) (a .1))
 
-  pub inside-set : (u i : ℕ) (v : Value) → i < len → Inside ks vs len u → endOf v ≤ u → Inside ks (set vs i v) len u
+  pub inside-set : (u i : ℕ) (v : Value) → i < s .len → Inside (s .keys .now) (s .values .now) (s .len) u → endOf v ≤ u → Inside (s .keys .now) (set (s .values .now) i v) (s .len) u
   inside-set u i v h a e = (
     a .0,
-    subst (All (λ (x : Value). endOf x ≤ u)) (sym (take-set-lt len vs i v h)) (all-set (λ (x : Value). endOf x ≤ u) (take len vs) i v e (a .1)),
+    subst (All (λ (x : Value). endOf x ≤ u)) (sym (take-set-lt (s .len) (s .values .now) i v h)) (all-set (λ (x : Value). endOf x ≤ u) (take (s .len) (s .values .now)) i v e (a .1)),
   )
 
-  module _ (n : ℕ) (m : Memory) (T : Tables) (h : Holds ks vs len n m T) (l : ℕ) (k : Val) where
-    pub holds-found : (i : ℕ) (e : Value) → firstPlace (λ (x : Key). samePlace (placeOf m x) (l, k)) (take len ks) ≡ Some i → i < len → read T l k ≡ Some (meaning m (getD vs i e))
-    holds-found i e f q =
-        let es = filed m (take len ks) (take len vs) in
-        let d : Filed = ((0, k), k) in
-        files-found es n T h l k i d (sym (first-filed m (l, k) (take len ks) (take len vs) even) ∙ f)
-        ∙ ap Some (value-filed m (take len ks) (take len vs) i d e even (omega (arith, length-take-le len vs valued)) ∙ ap (meaning m) (getD-take len vs i e q))
-
-    pub holds-none : firstPlace (λ (x : Key). samePlace (placeOf m x) (l, k)) (take len ks) ≡ None → read T l k ≡ None
-    holds-none f =
-        files-nothing (filed m (take len ks) (take len vs)) n T h l k (sym (first-filed m (l, k) (take len ks) (take len vs) even) ∙ f)
-
-    -- the value beside the key
-    pub holds-set : (i : ℕ) (v : Value) → firstPlace (λ (x : Key). samePlace (placeOf m x) (l, k)) (take len ks) ≡ Some i → i < len → l < n → Holds ks (set vs i v) len n m (write T l k (meaning m v))
-    holds-set i v f q lt =
-        let es = filed m (take len ks) (take len vs) in
-        let d : Filed = ((0, k), k) in
-        let first = sym (first-filed m (l, k) (take len ks) (take len vs) even) ∙ f in
-        subst (λ (z : List Filed). Files z n (write T l k (meaning m v)))
-        (file-found (l, k) (meaning m v) es i d first ∙ sym (filed-set m (take len ks) (take len vs) i v d) ∙ ap (filed m (take len ks)) (sym (take-set-lt len vs i v q)))
-        (files-file es n T h l k (meaning m v) lt)
-
-  -- a key and a value behind the others
-  pub holds-push : (n : ℕ) (m : Memory) (T : Tables) (h : Holds ks vs len n m T) (k : Key) (v : Value) → firstPlace (λ (x : Key). samePlace (placeOf m x) (placeOf m k)) (take len ks) ≡ None → len < length ks → len < length vs → k .location .0 < n
-      → Holds (set ks len k) (set vs len v) (len + 1) n m (write T (k .location .0) (meaning m (k .value)) (meaning m v))
-  holds-push n m T h k v f p q lt =
-      let es = filed m (take len ks) (take len vs) in
-      let first = sym (first-filed m (placeOf m k) (take len ks) (take len vs) even) ∙ f in
-      subst (λ (z : List Filed). Files z n (write T (k .location .0) (meaning m (k .value)) (meaning m v)))
-      (file-none (placeOf m k) (meaning m v) es first ∙ sym (filed-push m (take len ks) (take len vs) k v even)
-        ∙ (λ i. filed m (sym (take-more-set ks len k p) i) (sym (take-more-set vs len v q) i)))
-      (files-file es n T h (k .location .0) (meaning m (k .value)) (meaning m v) lt)
-
-  pub inside-push : (u : ℕ) (k : Key) (v : Value) → len < length ks → len < length vs → Inside ks vs len u → endOf (k .value) ≤ u → endOf v ≤ u → Inside (set ks len k) (set vs len v) (len + 1) u
-  inside-push u k v p q a e f = (
-    subst (All (λ (x : Key). endOf (x .value) ≤ u)) (sym (take-more-set ks len k p)) (all-push (λ (x : Key). endOf (x .value) ≤ u) (take len ks) k (a .0) e),
-    subst (All (λ (x : Value). endOf x ≤ u)) (sym (take-more-set vs len v q)) (all-push (λ (x : Value). endOf x ≤ u) (take len vs) v (a .1) f),
+  pub inside-push : (u : ℕ) (k : Key) (v : Value) → s .len < s .room → Inside (s .keys .now) (s .values .now) (s .len) u → endOf (k .value) ≤ u → endOf v ≤ u
+      → Inside (set (s .keys .now) (s .len) k) (set (s .values .now) (s .len) v) (s .len + 1) u
+  inside-push u k v lt a e f = (
+    subst (All (λ (x : Key). endOf (x .value) ≤ u)) (sym (take-more-set (s .keys .now) (s .len) k (omega (arith, s .keyed)))) (all-push (λ (x : Key). endOf (x .value) ≤ u) (take (s .len) (s .keys .now)) k (a .0) e),
+    subst (All (λ (x : Value). endOf x ≤ u)) (sym (take-more-set (s .values .now) (s .len) v (omega (arith, s .valued)))) (all-push (λ (x : Value). endOf x ≤ u) (take (s .len) (s .values .now)) v (a .1) f),
   )
+
+  module _ (m : Memory) (T : Tables) (h : Holds (s .keys .now) (s .values .now) (s .len) (s .count) m T) where
+    pub holds-length : length T ≡ s .count
+    holds-length = files-length (filed m (take (s .len) (s .keys .now)) (take (s .len) (s .values .now))) (s .count) T h
+
+    pub holds-pairs : pairs T ≡ s .len
+    holds-pairs =
+        files-pairs (filed m (take (s .len) (s .keys .now)) (take (s .len) (s .values .now))) (s .count) T h
+        ∙ length-filed m (take (s .len) (s .keys .now)) (take (s .len) (s .values .now)) even ∙ even ∙ long
+
+    pub holds-made : (l : ℕ) → l < s .count → made T l ≡ true
+    holds-made l q = lt-ltb l (length T) (omega (arith, holds-length))
+
+    pub holds-unmade : (l : ℕ) → s .count ≤ l → made T l ≡ false
+    holds-unmade l q = le-ltb l (length T) (omega (arith, holds-length))
+
+    pub holds-make : Holds (s .keys .now) (s .values .now) (s .len) (s .count + 1) m (T ++ [] ∷ [])
+    holds-make = files-make (filed m (take (s .len) (s .keys .now)) (take (s .len) (s .values .now))) (s .count) T h
+
+    module _ (k : Key) where
+      first : (r : Option ℕ) → r ≡ firstPlace (λ (x : Key). samePlace (placeOf m x) (placeOf m k)) (take (s .len) (s .keys .now)) → firstPlace (fits (placeOf m k)) (filed m (take (s .len) (s .keys .now)) (take (s .len) (s .values .now))) ≡ r
+      first r e = sym (e ∙ first-filed m (placeOf m k) (take (s .len) (s .keys .now)) (take (s .len) (s .values .now)) even)
+
+      -- a key that is there has the value beside it
+      pub holds-found : (i : ℕ) (e : Value) → Some i ≡ firstPlace (λ (x : Key). samePlace (placeOf m x) (placeOf m k)) (take (s .len) (s .keys .now)) → i < s .len
+          → read T (k .location .0) (meaning m (k .value)) ≡ Some (meaning m (getD (s .values .now) i e))
+      holds-found i e f q =
+          let ks = take (s .len) (s .keys .now) in
+          let vs = take (s .len) (s .values .now) in
+          let d : Filed = ((0, meaning m e), meaning m e) in
+          files-found (filed m ks vs) (s .count) T h (k .location .0) (meaning m (k .value)) i d (first (Some i) f)
+          ∙ ap Some (value-filed m ks vs i d e even (omega (arith, long)) ∙ ap (meaning m) (getD-take (s .len) (s .values .now) i e q))
+
+      pub holds-none : None ≡ firstPlace (λ (x : Key). samePlace (placeOf m x) (placeOf m k)) (take (s .len) (s .keys .now)) → read T (k .location .0) (meaning m (k .value)) ≡ None
+      holds-none f =
+          files-nothing (filed m (take (s .len) (s .keys .now)) (take (s .len) (s .values .now))) (s .count) T h (k .location .0) (meaning m (k .value)) (first None f)
+
+      -- a write to it replaces that value
+      pub holds-set : (i : ℕ) (v : Value) → Some i ≡ firstPlace (λ (x : Key). samePlace (placeOf m x) (placeOf m k)) (take (s .len) (s .keys .now)) → i < s .len → k .location .0 < s .count
+          → Holds (s .keys .now) (set (s .values .now) i v) (s .len) (s .count) m (write T (k .location .0) (meaning m (k .value)) (meaning m v))
+      holds-set i v f q lt =
+          let ks = take (s .len) (s .keys .now) in
+          let vs = take (s .len) (s .values .now) in
+          let d : Filed = ((0, meaning m v), meaning m v) in
+          subst (λ (z : List Filed). Files z (s .count) (write T (k .location .0) (meaning m (k .value)) (meaning m v)))
+          (file-found (placeOf m k) (meaning m v) (filed m ks vs) i d (first (Some i) f) ∙ sym (filed-set m ks vs i v d) ∙ ap (filed m ks) (sym (take-set-lt (s .len) (s .values .now) i v q)))
+          (files-file (filed m ks vs) (s .count) T h (k .location .0) (meaning m (k .value)) (meaning m v) lt)
+
+      -- a new key goes behind the others
+      pub holds-push : (v : Value) → None ≡ firstPlace (λ (x : Key). samePlace (placeOf m x) (placeOf m k)) (take (s .len) (s .keys .now)) → s .len < s .room → k .location .0 < s .count
+          → Holds (set (s .keys .now) (s .len) k) (set (s .values .now) (s .len) v) (s .len + 1) (s .count) m (write T (k .location .0) (meaning m (k .value)) (meaning m v))
+      holds-push v f q lt =
+          let ks = take (s .len) (s .keys .now) in
+          let vs = take (s .len) (s .values .now) in
+          subst (λ (z : List Filed). Files z (s .count) (write T (k .location .0) (meaning m (k .value)) (meaning m v)))
+          (file-none (placeOf m k) (meaning m v) (filed m ks vs) (first None f) ∙ sym (filed-push m ks vs k v even)
+          ∙ (λ i. filed m (sym (take-more-set (s .keys .now) (s .len) k (omega (arith, s .keyed))) i) (sym (take-more-set (s .values .now) (s .len) v (omega (arith, s .valued))) i)))
+          (files-file (filed m ks vs) (s .count) T h (k .location .0) (meaning m (k .value)) (meaning m v) lt)

@@ -45,21 +45,40 @@ fn place(keys: &[Key], len: usize, key: &Key, bytes: Bytes<'_, '_, '_>) -> Optio
 
 impl<'k, 'v> ListStore<'k, 'v> {
     // An empty store over lent memory: it can hold what both the capacity and the memory allow.
-    pub fn new(keys: &'k mut [Key], values: &'v mut [Value], capacity: Capacity) -> ListStore<'k, 'v>
+    pub fn new(
+        keys: &'k mut [Key],
+        values: &'v mut [Value],
+        capacity: Capacity,
+    ) -> ListStore<'k, 'v>
         ensures empty { λ r. ⌜ (r .len ≡ 0) × (r .count ≡ 0) ⌝ }
         ensures tables { λ r. ⌜ r .most ≡ capacity .tables ⌝ }
         ensures room { λ r. ⌜ r .room ≡ min (capacity .pairs) (min (length (now (keys .entry))) (length (now (values .entry)))) ⌝ }
     {
         let lent = keys.len().min(values.len());
         let room = lent.min(capacity.pairs() as usize);
-        ListStore { keys, values, len: 0, room, count: 0, most: capacity.tables() }
+        ListStore {
+            keys,
+            values,
+            len: 0,
+            room,
+            count: 0,
+            most: capacity.tables(),
+        }
     }
 
     fn place_of(&self, table: Location, key: Value, bytes: Bytes<'_, '_, '_>) -> Option<usize>
         ensures first { λ r. ⌜ r ≡ firstPlace (λ k. samePlace (placeOf (memoryOf (bytes .entry)) k) (placeOf (memoryOf (bytes .entry)) (record { location = table; value = key }))) (take (now (self .entry) .len) (behind (now (self .entry) .keys))) ⌝ }
         ensures within { λ r. ⌜ BySome r (Unit {0}) (λ i. i < now (self .entry) .len) ⌝ }
     {
-        place(self.keys, self.len, &Key { location: table, value: key }, bytes)
+        place(
+            self.keys,
+            self.len,
+            &Key {
+                location: table,
+                value: key,
+            },
+            bytes,
+        )
     }
 }
 
@@ -88,7 +107,12 @@ pub impl Store for ListStore<'_, '_> as ListStoreStore {
         Some(Location(made))
     }
 
-    fn read(&self, table: Location, key: Value, bytes: Bytes<'_, '_, '_>) -> Result<Option<Value>, NoTable> {
+    fn read(
+        &self,
+        table: Location,
+        key: Value,
+        bytes: Bytes<'_, '_, '_>,
+    ) -> Result<Option<Value>, NoTable> {
         if table.0 >= self.count {
             return Err(NoTable);
         }
@@ -98,7 +122,13 @@ pub impl Store for ListStore<'_, '_> as ListStoreStore {
         }
     }
 
-    fn write(&mut self, table: Location, key: Value, value: Value, bytes: Bytes<'_, '_, '_>) -> Result<(), Refusal> {
+    fn write(
+        &mut self,
+        table: Location,
+        key: Value,
+        value: Value,
+        bytes: Bytes<'_, '_, '_>,
+    ) -> Result<(), Refusal> {
         if table.0 >= self.count {
             return Err(Refusal::NoTable);
         }
@@ -112,7 +142,10 @@ pub impl Store for ListStore<'_, '_> as ListStoreStore {
                 if end >= self.room {
                     return Err(Refusal::Full);
                 }
-                self.keys[end] = Key { location: table, value: key };
+                self.keys[end] = Key {
+                    location: table,
+                    value: key,
+                };
                 self.values[end] = value;
                 self.len = end + 1;
                 Ok(())
