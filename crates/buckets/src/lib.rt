@@ -7,8 +7,11 @@ ghost use lib.ListN.{length, take};
 ghost use denote.Ref.{now as behind};
 ghost use Rattle.std.specs.Options.{Cases as BySome};
 ghost use Rattle.std.specs.Orderings.{Decides};
+ghost use Rattle.std.specs.declared.option.Option.the-variants.{None};
 ghost use Rattle.text.specs.Memory.{memoryOf};
 ghost use Rattle.text.specs.First.{firstPlace};
+ghost use Rattle.store.specs.Val.{meaning, endOf};
+ghost use Rattle.store.specs.Tables.{Tables, write};
 ghost use Rattle.store.specs.Filed.{placeOf, samePlace};
 ghost use Rattle.buckets.specs.Chains.{bucketAt, nextAt, firstAt, lastAt, Firsts, Lasts, Nexts, Gaps};
 ghost use Rattle.buckets.specs.Stored.{InPlace, Holds, Inside};
@@ -113,6 +116,45 @@ impl<'e, 'c> BucketStore<'e, 'c> {
         walk(self.entries, self.chains, self.len, bucket, &key, bytes)
     }
 
+    // A new key goes behind the others, and to the end of its chain.
+    fn append(&mut self, key: Key, value: Value, bytes: Bytes<'_, '_, '_>)
+        requires { ⌜ now self .len < now self .room ⌝ }
+        ensures holds { λ _. ⌜ ((T : Tables) → Holds (behind (now (self .entry) .entries)) (length (behind (now (self .entry) .chains))) (now (self .entry) .len) (now (self .entry) .count) (memoryOf (bytes .entry)) T → None ≡ firstPlace (λ e. samePlace (placeOf (memoryOf (bytes .entry)) (e .key)) (placeOf (memoryOf (bytes .entry)) key)) (take (now (self .entry) .len) (behind (now (self .entry) .entries))) → key .location .0 < now (self .entry) .count → Holds (behind (now (self .exit) .entries)) (length (behind (now (self .exit) .chains))) (now (self .exit) .len) (now (self .exit) .count) (memoryOf (bytes .entry)) (write T (key .location .0) (meaning (memoryOf (bytes .entry)) (key .value)) (meaning (memoryOf (bytes .entry)) value))) ⌝ }
+        ensures within { λ _. ⌜ ((u : ℕ) → Inside (behind (now (self .entry) .entries)) (now (self .entry) .len) u → endOf (key .value) ≤ u → endOf value ≤ u → Inside (behind (now (self .exit) .entries)) (now (self .exit) .len) u) ⌝ }
+        ensures tables { λ _. ⌜ now (self .exit) .most ≡ now (self .entry) .most ⌝ }
+        ensures room { λ _. ⌜ now (self .exit) .room ≡ now (self .entry) .room ⌝ }
+    {
+        let end = self.len;
+        let bucket = bucket_of(key, self.chains.len(), bytes);
+        let chain = self.chains[bucket];
+        if self.begun(chain, bucket) {
+            self.entries[chain.last].next = end;
+            self.entries[end] = Chained {
+                key,
+                value,
+                bucket,
+                next: end,
+            };
+            self.chains[bucket] = Chain {
+                first: chain.first,
+                last: end,
+            };
+            self.len = end + 1;
+        } else {
+            self.entries[end] = Chained {
+                key,
+                value,
+                bucket,
+                next: end,
+            };
+            self.chains[bucket] = Chain {
+                first: end,
+                last: end,
+            };
+            self.len = end + 1;
+        }
+    }
+
     fn begun(&self, chain: Chain, bucket: usize) -> bool
         ensures { λ r. ⌜ Decides r ((chain .first < now (self .entry) .len) × (bucketAt (behind (now (self .entry) .entries)) (chain .first) ≡ bucket)) ⌝ }
     {
@@ -187,38 +229,10 @@ pub impl Store for BucketStore<'_, '_> as BucketStoreStore {
                 Ok(())
             }
             None => {
-                let end = self.len;
-                if end >= self.room {
+                if self.len >= self.room {
                     return Err(Refusal::Full);
                 }
-                let bucket = bucket_of(key, self.chains.len(), bytes);
-                let chain = self.chains[bucket];
-                if self.begun(chain, bucket) {
-                    self.entries[chain.last].next = end;
-                    self.entries[end] = Chained {
-                        key,
-                        value,
-                        bucket,
-                        next: end,
-                    };
-                    self.chains[bucket] = Chain {
-                        first: chain.first,
-                        last: end,
-                    };
-                    self.len = end + 1;
-                    return Ok(());
-                }
-                self.entries[end] = Chained {
-                    key,
-                    value,
-                    bucket,
-                    next: end,
-                };
-                self.chains[bucket] = Chain {
-                    first: end,
-                    last: end,
-                };
-                self.len = end + 1;
+                self.append(key, value, bytes);
                 Ok(())
             }
         }
