@@ -1,6 +1,7 @@
 // The bucket store: a search looks only at the pairs whose keys have the same number.
 ghost use mathlib.Core.Path.{_≡_};
 ghost use mathlib.Core.Bool.{cond};
+ghost use mathlib.Core.List.{[]};
 ghost use Prim.Native.Nat.{ℕ, _<_, _≤_, min};
 ghost use lib.Dec.{eqb};
 ghost use lib.ListN.{length, take};
@@ -8,7 +9,7 @@ ghost use denote.Ref.{now as behind};
 ghost use Rattle.std.specs.Options.{Cases as BySome};
 ghost use Rattle.std.specs.Orderings.{Decides};
 ghost use Rattle.std.specs.declared.option.Option.the-variants.{None};
-ghost use Rattle.text.specs.Memory.{memoryOf};
+ghost use Rattle.text.specs.Memory.{Memory, memoryOf};
 ghost use Rattle.text.specs.First.{firstPlace};
 ghost use Rattle.store.specs.Val.{meaning, endOf};
 ghost use Rattle.store.specs.Tables.{Tables, write};
@@ -85,7 +86,8 @@ impl<'e, 'c> BucketStore<'e, 'c> {
         chains: &'c mut [Chain],
         capacity: Capacity,
     ) -> BucketStore<'e, 'c>
-        ensures empty { λ r. ⌜ (r .len ≡ 0) × (r .count ≡ 0) ⌝ }
+        ensures holds { λ r. ⌜ ((m : Memory) → Holds (behind (r .entries)) (length (behind (r .chains))) (r .len) (r .count) m []) ⌝ }
+        ensures within { λ r. ⌜ ((u : ℕ) → Inside (behind (r .entries)) (r .len) u) ⌝ }
         ensures tables { λ r. ⌜ r .most ≡ capacity .tables ⌝ }
         ensures room { λ r. ⌜ r .room ≡ cond (eqb (length (now (chains .entry))) 0) 0 (min (capacity .pairs) (length (now (entries .entry)))) ⌝ }
     {

@@ -126,6 +126,13 @@ module _ (T : Tables) (l : ℕ) (k v : Val) where
   pub read-write-other-table : (i : ℕ) (j : Val) → (i ≡ l → ⊥) → read (write T l k v) i j ≡ read T i j
   read-write-other-table i j n = ap (look j) (getD-set-other T l i (put k v (getD T l [])) [] n)
 
+  -- both at once, by the test of keys
+  pub read-write : (j : Val) → made T l ≡ true → read (write T l k v) l j ≡ cond (equalVal j k) (Some v) (read T l j)
+  read-write j h = by (equalVal j k) refl where
+    by : (t : Bool) → equalVal j k ≡ t → read (write T l k v) l j ≡ cond t (Some v) (read T l j)
+    by true e = ap (read (write T l k v) l) (decides-val j k .0 e) ∙ read-write-same h
+    by false e = read-write-other-key j (λ q. both-ways _ e (decides-val j k .1 q))
+
   pub pairs-write-present : isSome (read T l k) ≡ true → pairs (write T l k v) ≡ pairs T
   unfolding look
   pairs-write-present h = ⊎-elim

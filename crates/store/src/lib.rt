@@ -16,6 +16,7 @@ use text::span::Bytes;
 
 pub mod capacity;
 pub mod key;
+pub mod laws;
 pub mod list;
 pub mod value;
 

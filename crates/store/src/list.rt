@@ -1,10 +1,11 @@
 // The list store: all pairs in the order in which their keys came, searched from the start.
 ghost use mathlib.Core.Path.{_≡_};
+ghost use mathlib.Core.List.{[]};
 ghost use Prim.Native.Nat.{ℕ, _<_, _≤_, min};
 ghost use lib.ListN.{length, take};
 ghost use denote.Ref.{now as behind};
 ghost use Rattle.std.specs.Options.{Cases as BySome};
-ghost use Rattle.text.specs.Memory.{memoryOf};
+ghost use Rattle.text.specs.Memory.{Memory, memoryOf};
 ghost use Rattle.text.specs.First.{firstPlace};
 ghost use Rattle.store.specs.Filed.{placeOf, samePlace};
 ghost use Rattle.store.specs.Listed.{Holds, Inside};
@@ -50,7 +51,8 @@ impl<'k, 'v> ListStore<'k, 'v> {
         values: &'v mut [Value],
         capacity: Capacity,
     ) -> ListStore<'k, 'v>
-        ensures empty { λ r. ⌜ (r .len ≡ 0) × (r .count ≡ 0) ⌝ }
+        ensures holds { λ r. ⌜ ((m : Memory) → Holds (behind (r .keys)) (behind (r .values)) (r .len) (r .count) m []) ⌝ }
+        ensures within { λ r. ⌜ ((u : ℕ) → Inside (behind (r .keys)) (behind (r .values)) (r .len) u) ⌝ }
         ensures tables { λ r. ⌜ r .most ≡ capacity .tables ⌝ }
         ensures room { λ r. ⌜ r .room ≡ min (capacity .pairs) (min (length (now (keys .entry))) (length (now (values .entry)))) ⌝ }
     {
