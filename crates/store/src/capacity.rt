@@ -9,7 +9,7 @@ pub const TABLES: u16 = 4096;
 pub const PAIRS: u16 = 16384;
 
 // Numbers within the limits: a store can only be made for such.
-#[derive(Drop)]
+#[derive(Clone, Copy)]
 pub struct Capacity {
     tables: u16,
     pairs: u16,
