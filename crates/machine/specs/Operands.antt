@@ -3,13 +3,18 @@ use mathlib.Core.Bool.{Bool, true, false, cond}
 use mathlib.Core.List.{List, [], _∷_}
 use Prim.Native.Nat.{ℕ, zero, suc}
 use lib.IntN.{ℤ, pos, negsuc}
+use Rattle.std.specs.Options.{isSome}
 use Rattle.std.specs.declared.result.Result.the-variants.{Ok, Err}
-use Rattle.store.specs.Val.{Val}
-use Rattle.store.specs.Tables.{Tables, made}
+use Rattle.store.specs.Val.{Val, equalVal}
+use Rattle.store.specs.Tables as store
+use Rattle.store.specs.Tables.{Table, Tables, look, made}
+use Rattle.machine.specs.declared.arith.Op.{Op}
+use Rattle.machine.specs.declared.arith.Order.{Order}
 use Rattle.machine.specs.declared.instruction.Kind.{Kind}
 use Rattle.machine.specs.declared.instruction.Kind.the-variants.{Integer, Text, Table as Tab}
 use Rattle.machine.specs.declared.ending.Ending.the-variants.{Stuck}
 use Rattle.machine.specs.Outcome.{Outcome, _>>=_, need, unless}
+use Rattle.machine.specs.Arith.{arith, inOrder}
 use Rattle.machine.specs.Builtin.{integerIn}
 use Rattle.machine.specs.State.{Registers, read}
 
@@ -70,3 +75,31 @@ isOf Tab (Val.int n) = false
 isOf Tab (Val.string s) = false
 isOf Tab (Val.identifier g) = false
 isOf Tab (Val.location l) = true
+
+-- the sum, difference, product or quotient of two integers
+abbrev pub arithAt : Op → Registers → ℕ → ℕ → Outcome Val
+arithAt o R b c = integerAt R b >>= (λ x. integerAt R c >>= (λ y. arith o x y >>= (λ z. Ok (Val.int z))))
+
+-- are two values the same, kind and content?
+abbrev pub sameAt : Registers → ℕ → ℕ → Outcome Val
+sameAt R b c = valueAt R b >>= (λ x. valueAt R c >>= (λ y. Ok (truth (equalVal x y))))
+
+-- is an integer less than another, or at most the other?
+abbrev pub orderedAt : Order → Registers → ℕ → ℕ → Outcome Val
+orderedAt o R b c = integerAt R b >>= (λ x. integerAt R c >>= (λ y. Ok (truth (inOrder o x y))))
+
+-- is a value of this kind?
+abbrev pub kindAt : Kind → Registers → ℕ → Outcome Val
+kindAt k R b = valueAt R b >>= (λ x. Ok (truth (isOf k x)))
+
+-- the value under a key that is there
+abbrev pub keyAt : Tables → Registers → ℕ → ℕ → Outcome Val
+keyAt T R b c = tableAt T R b >>= (λ l. valueAt R c >>= (λ k. need (store.read T l k)))
+
+-- is a key there?
+abbrev pub hasKeyAt : Tables → Registers → ℕ → ℕ → Outcome Val
+hasKeyAt T R b c = tableAt T R b >>= (λ l. valueAt R c >>= (λ k. Ok (truth (isSome (store.read T l k)))))
+
+-- a global that was written before
+abbrev pub globalAt : Table → ℕ → Outcome Val
+globalAt G g = need (look (Val.identifier g) G)

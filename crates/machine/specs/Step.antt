@@ -9,7 +9,7 @@ use Rattle.std.specs.Options.{isSome}
 use Rattle.std.specs.declared.option.Option.{Option}
 use Rattle.std.specs.declared.option.Option.the-variants.{Some, None}
 use Rattle.std.specs.declared.result.Result.the-variants.{Ok, Err}
-use Rattle.store.specs.Val.{Val, equalVal}
+use Rattle.store.specs.Val.{Val}
 use Rattle.store.specs.Tables as store
 use Rattle.store.specs.Tables.{Table, look, put, takes}
 use Rattle.machine.specs.declared.builtin.Builtin.{Builtin}
@@ -30,13 +30,24 @@ use Rattle.machine.specs.declared.ending.Ending.the-variants.{
 }
 use Rattle.machine.specs.Limits.{registersPerFrame, mostFrames, mostGlobals, Limits}
 use Rattle.machine.specs.Outcome.{Outcome, _>>=_, need, unless}
-use Rattle.machine.specs.Arith as arithmetic
-use Rattle.machine.specs.Arith.{inOrder}
 use Rattle.machine.specs.Effects.{Effects}
 use Rattle.machine.specs.Builtin.{builtinOf, apply}
 use Rattle.machine.specs.Instr.{Instr, Program, fetch, answerRegister}
 use Rattle.machine.specs.State.{write, passed, Frame, frame, World, withTables, withGlobals, withEffects, State, at, Next, goes, ends}
-use Rattle.machine.specs.Operands.{valueAt, integerAt, tableAt, functionAt, valuesFrom, truth, isZero, isOf}
+use Rattle.machine.specs.Operands.{
+  valueAt,
+  tableAt,
+  functionAt,
+  valuesFrom,
+  isZero,
+  arithAt,
+  sameAt,
+  orderedAt,
+  kindAt,
+  keyAt,
+  hasKeyAt,
+  globalAt,
+}
 
 -- the answer goes into register a, if the frame has it, and the next instruction follows
 abbrev pub into : ℕ → Outcome Val → State → Outcome State
@@ -114,43 +125,39 @@ exec P L (Instr.const a v) m = into a (Ok v) m
 -- a register into another
 exec P L (Instr.mov a b) (at f pc R S W) = into a (valueAt R b) (at f pc R S W)
 -- the sum, difference, product or quotient of two integers
-exec P L (Instr.arith o a b c) (at f pc R S W) =
-    into a (integerAt R b >>= (λ x. integerAt R c >>= (λ y. arithmetic.arith o x y >>= (λ z. Ok (Val.int z))))) (at f pc R S W)
--- are two values the same, kind and content?
-exec P L (Instr.eq a b c) (at f pc R S W) =
-    into a (valueAt R b >>= (λ x. valueAt R c >>= (λ y. Ok (truth (equalVal x y))))) (at f pc R S W)
--- is an integer less than another, or at most the other?
-exec P L (Instr.ordered o a b c) (at f pc R S W) =
-    into a (integerAt R b >>= (λ x. integerAt R c >>= (λ y. Ok (truth (inOrder o x y))))) (at f pc R S W)
--- is a value of this kind?
-exec P L (Instr.isKind k a b) (at f pc R S W) = into a (valueAt R b >>= (λ x. Ok (truth (isOf k x)))) (at f pc R S W)
+exec P L (Instr.arith o a b c) (at f pc R S W) = into a (arithAt o R b c) (at f pc R S W)
+-- 1 where two values are the same, kind and content
+exec P L (Instr.eq a b c) (at f pc R S W) = into a (sameAt R b c) (at f pc R S W)
+-- 1 where an integer is less than another, or at most the other
+exec P L (Instr.ordered o a b c) (at f pc R S W) = into a (orderedAt o R b c) (at f pc R S W)
+-- 1 where a value is of this kind
+exec P L (Instr.isKind k a b) (at f pc R S W) = into a (kindAt k R b) (at f pc R S W)
 -- a jump past the last instruction is a step
 exec P L (Instr.jmp n) m = jump n m
 -- a jump on the integer 0; any other value falls through
 exec P L (Instr.ifZero a n) (at f pc R S W) =
     valueAt R a >>= (λ x. cond (isZero x) (jump n (at f pc R S W)) (Ok (at f (suc pc) R S W)))
 -- a global that was written before
-exec P L (Instr.rdGlob a g) (at f pc R S W) = into a (need (look (Val.identifier g) (W .globals))) (at f pc R S W)
+exec P L (Instr.rdGlob a g) (at f pc R S W) = into a (globalAt (W .globals) g) (at f pc R S W)
+-- a global, replaced or new
 exec P L (Instr.wrGlob g a) (at f pc R S W) = valueAt R a >>= (λ v. setGlobal g v (at f pc R S W))
 -- a new table
 exec P L (Instr.mkTab a) m = makeTable L a m
 -- the value under a key that is there
-exec P L (Instr.rdTab a b c) (at f pc R S W) =
-    into a (tableAt (W .tables) R b >>= (λ l. valueAt R c >>= (λ k. need (store.read (W .tables) l k)))) (at f pc R S W)
--- a key's value, replaced or new
+exec P L (Instr.rdTab a b c) (at f pc R S W) = into a (keyAt (W .tables) R b c) (at f pc R S W)
+-- the value under a key, replaced or new
 exec P L (Instr.wrTab a b c) (at f pc R S W) =
     tableAt (W .tables) R a
     >>= (λ l. valueAt R b >>= (λ k. valueAt R c >>= (λ v. setKey L l k v (at f pc R S W))))
--- is a key there?
-exec P L (Instr.hasTab a b c) (at f pc R S W) =
-    into a
-    (tableAt (W .tables) R b >>= (λ l. valueAt R c >>= (λ k. Ok (truth (isSome (store.read (W .tables) l k))))))
-    (at f pc R S W)
+-- 1 where a key is there
+exec P L (Instr.hasTab a b c) (at f pc R S W) = into a (hasKeyAt (W .tables) R b c) (at f pc R S W)
 -- the registers from the first to the last are passed: none if the last is below the first
 exec P L (Instr.call a first last) (at f pc R S W) =
     functionAt R a
     >>= (λ g. valuesFrom R first (suc last - first) >>= (λ vs. invoke (builtinOf g) g first vs (at f pc R S W)))
+-- back to the caller, or the end of the run
 exec P L (Instr.ret a) (at f pc R S W) = valueAt R a >>= (λ v. return P v S W)
+-- the ending that the program asks for
 exec P L (Instr.halt a) (at f pc R S W) = valueAt R a >>= (λ v. Err (halted v))
 
 abbrev pub nextOf : Effects → Outcome State → Next
