@@ -1,0 +1,3 @@
+// The machine at work in lent memory.
+pub mod globals;
+pub mod operands;
