@@ -1,0 +1,3 @@
+// From a text to the one tree that it has, standing in a lent node table, or the refusal of it.
+pub mod node;
+pub mod sight;
