@@ -11,6 +11,7 @@ use Rattle.lexer.specs.Token.{Terminal, identifier, integer, field, string, key
 use Rattle.lexer.specs.Lexing.{Next, next}
 use Rattle.lexer.specs.Tokens.{Placed, Tokens, before, scan, tokens, judged}
 use Rattle.lexer.proofs.Onward.{Known, known-by}
+use Rattle.syntax.specs.declared.sight.Sort.the-variants as sort
 use Rattle.syntax.specs.Left.{onward, upTo, left, terms, places}
 use Rattle.syntax.specs.Sight.{slice, tokenAs, shown, sortOf, headSort}
 
@@ -83,3 +84,15 @@ module _ (text : List ℕ) where
 
   pub inside-text : (at : ℕ) (t : Terminal) (from to : ℕ) → Next.token t from to ≡ next text at → (at ≤ from) × (from < to) × (to ≤ length text)
   inside-text at t from to i = known-by text at (Next.token t from to) i .inside
+
+  -- a string has its two quotes
+  quotes : (t : Terminal) → sortOf t ≡ sort.Str → 2 ≤ length (spelling t)
+  quotes (identifier w) e = let z : _≡_ {A = ℕ} 0 1 = cc in absurd (omega arith)
+  quotes (integer w) e = let z : _≡_ {A = ℕ} 0 1 = cc in absurd (omega arith)
+  quotes (field w) e = let z : _≡_ {A = ℕ} 0 1 = cc in absurd (omega arith)
+  quotes (string w) e = let n = length-append w (34 ∷ []) in omega arith
+  quotes (keyword k) e = let z : _≡_ {A = ℕ} 0 1 = cc in absurd (omega arith)
+  quotes (symbol s) e = let z : _≡_ {A = ℕ} 0 1 = cc in absurd (omega arith)
+
+  pub quoted-bytes : (at : ℕ) (t : Terminal) (from to : ℕ) → Next.token t from to ≡ next text at → sortOf t ≡ sort.Str → from + 2 ≤ to
+  quoted-bytes at t from to i e = let n = wide at t from to i in let q = quotes t e in omega arith

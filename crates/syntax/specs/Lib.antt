@@ -1,2 +1,4 @@
 pub mod Left
 pub mod Sight
+pub mod Trees
+pub mod Parsing

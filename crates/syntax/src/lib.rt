@@ -1,3 +1,7 @@
 // From a text to the one tree that it has, standing in a lent node table, or the refusal of it.
+pub mod expression;
+pub mod names;
 pub mod node;
+pub mod number;
 pub mod sight;
+pub mod table;

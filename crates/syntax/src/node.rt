@@ -32,3 +32,35 @@ pub struct Node {
     pub place: u16,
     pub form: Form,
 }
+
+// What the limits ask of an expression: its depth, with 17 for all that is deeper than 16, and whether its literals and its lists of arguments are small enough.
+#[derive(Clone, Copy)]
+pub struct Size {
+    pub depth: u8,
+    pub small: bool,
+}
+
+// An expression that was read: where it ends, how many nodes and names of the body there are so far, and its root with its place.
+#[derive(Clone, Copy)]
+pub struct Got {
+    pub to: u16,
+    pub nodes: u16,
+    pub names: u8,
+    pub root: u16,
+    pub place: u16,
+    pub size: Size,
+}
+
+// Arguments that were read.
+#[derive(Clone, Copy)]
+pub struct Given {
+    pub to: u16,
+    pub nodes: u16,
+    pub names: u8,
+    pub arguments: Arguments,
+    pub size: Size,
+}
+
+// The place of a token that no text has there.
+#[derive(Clone, Copy)]
+pub struct Stuck(pub u16);

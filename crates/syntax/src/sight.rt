@@ -1,11 +1,12 @@
 // What stands next in a text.
 ghost use mathlib.Core.Path.{_≡_};
-ghost use Prim.Native.Nat.{ℕ, _<_, _≤_};
+ghost use Prim.Native.Nat.{ℕ, _+_, _<_, _≤_};
 ghost use lib.ListN.{length};
 ghost use Rattle.std.specs.Options.{Cases as BySome};
 ghost use Rattle.std.specs.declared.option.Option.the-variants.{Some};
 ghost use mathlib.Core.List.{[]};
 ghost use Rattle.grammar.specs.Notes.{first};
+ghost use Rattle.syntax.specs.declared.sight.Sort.the-variants.{Str};
 ghost use Rattle.syntax.specs.Left.{left, terms, places};
 ghost use Rattle.lexer.specs.Token.{terminal};
 ghost use Rattle.syntax.specs.Sight.{shown, sortOf, headSort};
@@ -53,6 +54,7 @@ pub fn look(text: &[u8], at: u16) -> Option<Sight>
     requires short { ⌜ length (now text) ≤ 4096 ⌝ }
     ensures shows { λ r. ⌜ BySome r (left (now (text .entry)) at ≡ []) (λ s. left (now (text .entry)) at ≡ shown (now (text .entry)) (s .sort) (s .from) (s .to)) ⌝ }
     ensures inside { λ r. ⌜ BySome r (Unit {0}) (λ s. (at ≤ s .from) × (s .from < s .to) × (s .to ≤ length (now (text .entry)))) ⌝ }
+    ensures quoted { λ r. ⌜ BySome r (Unit {0}) (λ s. (s .sort ≡ Str → s .from + 2 ≤ s .to)) ⌝ }
 {
     match next_token(text, at as usize) {
         Ok(found) => match found {
