@@ -121,17 +121,21 @@ module _ (text : List ℕ) (at from : ℕ) (past : at ≤ from) (inside : from <
       → (o : Option Terminal) → first (drop from text) ≡ o → Known text at (placed from o)
   known-first skip None e =
       let s = same ∙ scan-first from (drop from text) None stop left-some e in
-      record { scanned = s;
-               onward = ap judged s;
-               inside = (past, inside);
-               stands = (skip [] (drop from text) here, halting (drop from text) stop left-some e) }
+      record {
+        scanned = s;
+        onward = ap judged s;
+        inside = (past, inside);
+        stands = (skip [] (drop from text) here, halting (drop from text) stop left-some e);
+      }
   known-first skip (Some t) e =
       let g = standing t e in
       let s = same ∙ scan-item (drop from text) from t _ g in
-      record { scanned = (s, g .written);
-               onward = ap judged s ∙ judged-before _ _;
-               inside = inside-token t g;
-               stands = skip _ _ (item g here) }
+      record {
+        scanned = (s, g .written);
+        onward = ap judged s ∙ judged-before _ _;
+        inside = inside-token t g;
+        stands = skip _ _ (item g here);
+      }
 
 module _ (text : List ℕ) (at : ℕ) where
   from : ℕ
@@ -161,7 +165,7 @@ module _ (text : List ℕ) (at : ℕ) where
       ⊎-elim
       (λ h. subst (Known text at) (sym (next-placed text at from refl h)) (known-first text at from (omega arith) h same-scan stopped skipped (first (drop from text)) refl))
       (λ h. subst (Known text at) (sym (next-end text at from refl h))
-        (record { scanned = same-scan ∙ ap (scan from 0) (ended h); onward = ap judged (same-scan ∙ ap (scan from 0) (ended h)); inside = tt; stands = skipped [] [] (subst (λ l. Reads from l [] []) (sym (ended h)) here) }))
+      (record { scanned = same-scan ∙ ap (scan from 0) (ended h); onward = ap judged (same-scan ∙ ap (scan from 0) (ended h)); inside = tt; stands = skipped [] [] (subst (λ l. Reads from l [] []) (sym (ended h)) here) }))
       (cases-lt from (length text))
 
 -- of an answer that is the next

@@ -1,10 +1,13 @@
 -- What the parser's functions promise of what they read. Assumes nothing.
 use mathlib.Core.Path.{_≡_}
+use mathlib.Core.Bool.{Bool, true, false}
 use mathlib.Core.List.{List, [], _∷_}
 use mathlib.Core.Option.{some}
 use Prim.Native.Nat.{ℕ, _+_, _<_, _≤_}
 use lib.ListN.{length, drop, set}
-use Rattle.lexer.specs.Token.{Terminal, identifier, field}
+use Rattle.lexer.specs.Token.{Terminal, identifier, integer, field, string, keyword, symbol}
+use Rattle.lexer.specs.declared.token.Keyword.the-variants as word
+use Rattle.lexer.specs.declared.token.Symbol.the-variants as sign
 use Rattle.text.specs.declared.span.Span.{Span}
 use Rattle.text.specs.Memory.{Memory}
 use Rattle.grammar.specs.Tree.{Expr, Args}
@@ -18,17 +21,55 @@ use Rattle.syntax.specs.declared.node.Arguments.{Arguments}
 use Rattle.syntax.specs.declared.node.Size.{Size}
 use Rattle.syntax.specs.declared.node.Got.{Got}
 use Rattle.syntax.specs.declared.node.Given.{Given}
+use Rattle.syntax.specs.declared.node.Form.{Form}
+use Rattle.syntax.specs.declared.node.Form.the-variants as form
+use Rattle.syntax.specs.declared.node.Target as declared
 use Rattle.syntax.specs.Left.{left, terms, places}
+use Rattle.syntax.specs.Sight.{slice}
 use Rattle.syntax.specs.Trees.{Lies, at, TreeAt, ArgsAt}
 
 -- q is behind some of the tokens from p on
-abbrev pub Ahead : List ℕ → ℕ → ℕ → Type 0
-Ahead text p q = (k : ℕ) × (left text q ≡ drop k (left text p))
+pub record Ahead (text : List ℕ) (p q : ℕ) : Type 0 where
+  pub past : ℕ
+  pub is : left text q ≡ drop past (left text p)
 
 -- the token that a target is
 abbrev pub targetToken : Target → Terminal
 targetToken (Target.local x) = identifier x
 targetToken (Target.field x) = field x
+
+-- what a target seen in the text is written to
+abbrev pub named : Bool → List ℕ → Target
+named false x = Target.local x
+named true x = Target.field x
+
+abbrev pub meant : List ℕ → declared.Target → Target
+meant text t = named (t .field) (slice text (t .from) (t .to))
+
+-- the target t and `=` stand next behind p
+pub record Writes (text : List ℕ) (p : ℕ) (t : declared.Target) : Type 0 where
+  pub place : ℕ
+  pub target : left text p ≡ record { token = targetToken (meant text t); place = t .from } ∷ left text (t .to)
+  pub equals : left text (t .to) ≡ record { token = symbol sign.Equals; place = place } ∷ left text (t .value)
+
+-- the token can be written to
+abbrev pub IsTarget : Terminal → Type 0
+IsTarget (identifier x) = Unit {0}
+IsTarget (integer w) = ⊥
+IsTarget (field x) = Unit {0}
+IsTarget (string w) = ⊥
+IsTarget (keyword k) = ⊥
+IsTarget (symbol s) = ⊥
+
+-- the tokens do not begin with a target and `=`
+abbrev pub NoWrite : List Terminal → Type 0
+NoWrite [] = Unit {0}
+NoWrite (t ∷ r) = IsTarget t → First (symbol sign.Equals) r → ⊥
+
+-- the form of a write to a field or a local
+abbrev pub writtenForm : Bool → Span → ℕ → Form
+writtenForm false s r = form.SetLocal s r
+writtenForm true s r = form.SetField s r
 
 -- the tokens from p up to q are the expression e of level l at most, with its places
 pub record Reads (l : ℕ) (text : List ℕ) (p q : ℕ) (e : Expr ℕ) : Type 0 where
@@ -64,17 +105,17 @@ pub record Refused (l : ℕ) (text : List ℕ) (p e : ℕ) : Type 0 where
 -- an operand, and no call follows
 pub record Operand (text : List ℕ) (base p : ℕ) (xs ys : List Node) (us vs : List Span) (n m : ℕ) (g : Got) : Type 0 where
   pub parsed : Parsed 1 text base p xs ys us vs n m g
-  pub no-dot : First (Terminal.symbol Rattle.lexer.specs.declared.token.Symbol.the-variants.Dot) (terms text (g .to)) → ⊥
+  pub no-dot : First (symbol sign.Dot) (terms text (g .to)) → ⊥
 
 -- an operand or some tests of one: a call follows none that has tests
 pub record Testing (text : List ℕ) (base p : ℕ) (xs ys : List Node) (us vs : List Span) (n m : ℕ) (g : Got) : Type 0 where
   pub parsed : Parsed 2 text base p xs ys us vs n m g
-  pub dot : First (Terminal.symbol Rattle.lexer.specs.declared.token.Symbol.the-variants.Dot) (terms text (g .to)) → 1 < level (forget (parsed .tree))
+  pub dot : First (symbol sign.Dot) (terms text (g .to)) → 1 < level (forget (parsed .tree))
 
 -- a test, and no further one follows
 pub record Tested (text : List ℕ) (base p : ℕ) (xs ys : List Node) (us vs : List Span) (n m : ℕ) (g : Got) : Type 0 where
   pub testing : Testing text base p xs ys us vs n m g
-  pub no-test : First (Terminal.keyword Rattle.lexer.specs.declared.token.Keyword.the-variants.InstanceOf) (terms text (g .to)) → ⊥
+  pub no-test : First (keyword word.InstanceOf) (terms text (g .to)) → ⊥
 
 -- an item, with which the tokens do not go on
 pub record Item (text : List ℕ) (base p : ℕ) (xs ys : List Node) (us vs : List Span) (n m : ℕ) (g : Got) : Type 0 where
@@ -146,3 +187,18 @@ pub record Put (xs ys : List Node) (n m : ℕ) (node : Node) (to : ℕ) (size : 
   pub place : g .place ≡ node .place
   pub size-is : g .size ≡ size
   pub table : ys ≡ set xs (n) node
+
+-- what one more argument gives
+pub record With (a : Given) (e : Got) (g : Given) : Type 0 where
+  pub to-is : g .to ≡ e .to
+  pub counted : g .nodes ≡ e .nodes
+  pub known : g .names ≡ e .names
+  pub many : g .arguments .count ≡ a .arguments .count + 1
+  pub roots : g .arguments .roots ≡ set (a .arguments .roots) (a .arguments .count) (e .root)
+
+-- what the `)` behind arguments gives
+pub record Closed (a : Given) (to : ℕ) (g : Given) : Type 0 where
+  pub to-is : g .to ≡ to
+  pub counted : g .nodes ≡ a .nodes
+  pub known : g .names ≡ a .names
+  pub same : g .arguments ≡ a .arguments

@@ -1,7 +1,7 @@
 -- Trees in a node table. Assumes nothing.
 use mathlib.Core.Path.{_≡_}
 use mathlib.Core.List.{List}
-use Prim.Native.Nat.{ℕ, _+_, _^_, _<_, _≤_}
+use Prim.Native.Nat.{ℕ, _+_, _-_, _%_, _^_, _<_, _≤_}
 use lib.ListN.{length, getD}
 use Rattle.text.specs.declared.span.Space.the-variants.{Texts}
 use Rattle.text.specs.declared.span.Span.{Span}
@@ -18,6 +18,10 @@ use Rattle.syntax.specs.declared.node.Form.the-variants.{Int, Nil, SelfWord, S
 pub record Lies (m : Memory) (text : List ℕ) (base : ℕ) : Type 0 where
   pub reached : base + length text < 2 ^ 16
   pub same : (i : ℕ) → i < length text → getD (m .texts) (base + i) 0 ≡ getD text i 0
+
+-- the bytes `from` up to `to` of a text that begins at `base`
+abbrev pub spanOf : ℕ → ℕ → ℕ → Span
+spanOf base from to = record { space = Texts; start = (base + from) % 2 ^ 16; len = to - from }
 
 -- the span has the bytes w in the memory of texts
 abbrev pub WordAt : Memory → Span → List ℕ → Type 0

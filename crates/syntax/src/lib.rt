@@ -1,5 +1,6 @@
 // From a text to the one tree that it has, standing in a lent node table, or the refusal of it.
 pub mod expression;
+pub mod leaves;
 pub mod names;
 pub mod node;
 pub mod number;

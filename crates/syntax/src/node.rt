@@ -64,3 +64,12 @@ pub struct Given {
 // The place of a token that no text has there.
 #[derive(Clone, Copy)]
 pub struct Stuck(pub u16);
+
+// What can be written to, with `=` behind it: the bytes of its name, and where the value begins.
+#[derive(Clone, Copy)]
+pub struct Target {
+    pub field: bool,
+    pub from: u16,
+    pub to: u16,
+    pub value: u16,
+}

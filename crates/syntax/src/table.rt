@@ -4,19 +4,23 @@ ghost use mathlib.Core.Bool.{_&&_};
 ghost use mathlib.Core.List.{[], _∷_};
 ghost use Prim.Native.Nat.{ℕ, _+_, _-_, _^_, _%_, _<_, _≤_, min, max};
 ghost use lib.ListN.{set};
-ghost use Rattle.text.specs.declared.span.Space.the-variants.{Texts};
-ghost use Rattle.syntax.specs.Parsing.{Put};
+ghost use Rattle.syntax.specs.Trees.{spanOf};
+ghost use Rattle.syntax.specs.Parsing.{writtenForm, Put, With, Closed};
+use crate::names::learn;
 use crate::node::Arguments;
+use crate::node::Form;
+use crate::node::Given;
 use crate::node::Got;
 use crate::node::Node;
 use crate::node::Size;
+use crate::node::Target;
 use text::span::Space;
 use text::span::Span;
 
 // The bytes `from` up to `to` of a text that begins at `base`.
 pub fn span(base: u16, from: u16, to: u16) -> Span
     requires { ⌜ from ≤ to ⌝ }
-    ensures where_they_lie { λ r. ⌜ r ≡ record { space = Texts; start = (base + from) % 2 ^ 16; len = to - from } ⌝ }
+    ensures where_they_lie { λ r. ⌜ r ≡ spanOf base from to ⌝ }
 {
     Span {
         space: Space::Texts,
@@ -96,10 +100,67 @@ impl Size {
         ensures deeper_one { λ r. ⌜ r .depth ≡ max (self .depth) (other .depth) ⌝ }
         ensures both_small { λ r. ⌜ r .small ≡ self .small && other .small ⌝ }
     {
-        let depth = if self.depth < other.depth { other.depth } else { self.depth };
+        let depth = if self.depth < other.depth {
+            other.depth
+        } else {
+            self.depth
+        };
         Size {
             depth,
             small: self.small && other.small,
         }
+    }
+}
+
+// The form of a write.
+pub fn written(base: u16, target: Target, root: u16) -> Form
+    requires { ⌜ target .from ≤ target .to ⌝ }
+    ensures by_its_target { λ r. ⌜ r ≡ writtenForm (target .field) (spanOf base (target .from) (target .to)) root ⌝ }
+{
+    let name = span(base, target.from, target.to);
+    if target.field {
+        Form::SetField(name, root)
+    } else {
+        Form::SetLocal(name, root)
+    }
+}
+
+// How many names a body has once the target is written to: a field's is none.
+pub fn learn_target(text: &[u8], names: &mut [Span], m: u8, target: Target) -> u8
+    requires { ⌜ target .from ≤ target .to ⌝ }
+{
+    if target.field {
+        m
+    } else {
+        learn(text, names, m, span(0, target.from, target.to))
+    }
+}
+
+// One more argument.
+pub fn with(given: Given, e: Got) -> Given
+    requires { ⌜ given .arguments .count < e .to ⌝ }
+    ensures one_more { λ r. ⌜ With given e r ⌝ }
+{
+    let arguments = given.arguments.with(e.root);
+    Given {
+        to: e.to,
+        nodes: e.nodes,
+        names: e.names,
+        arguments,
+        size: given.size.beside(e.size),
+    }
+}
+
+// The arguments, all of them read up to their `)`.
+pub fn closed(given: Given, to: u16) -> Given
+    ensures as_given { λ r. ⌜ Closed given to r ⌝ }
+{
+    let few = given.arguments.count <= 4;
+    Given {
+        to,
+        nodes: given.nodes,
+        names: given.names,
+        arguments: given.arguments,
+        size: Size::new(given.size.depth, few && given.size.small),
     }
 }

@@ -11,7 +11,7 @@ returns-in-Some c =
     let is = ap found (sym (c .in-Some .is)) ∙ c .in-Ok .ensures tt .the-next in
     record {
       shows = left-shown (c .args .text .now) (c .args .at) (terminal (l .token)) (l .from) (l .to) is
-        ∙ ap (λ s. shown (c .args .text .now) s (l .from) (l .to)) (sym (c .sort-of .ensures .by-its-case));
+          ∙ ap (λ s. shown (c .args .text .now) s (l .from) (l .to)) (sym (c .sort-of .ensures .by-its-case));
       inside = inside-text (c .args .text .now) (c .args .at) (terminal (l .token)) (l .from) (l .to) is;
       quoted = λ e. quoted-bytes (c .args .text .now) (c .args .at) (terminal (l .token)) (l .from) (l .to) is (sym (c .sort-of .ensures .by-its-case) ∙ e);
     }
