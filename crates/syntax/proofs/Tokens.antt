@@ -96,3 +96,45 @@ module _ (text : List ℕ) where
 
   pub quoted-bytes : (at : ℕ) (t : Terminal) (from to : ℕ) → Next.token t from to ≡ next text at → sortOf t ≡ sort.Str → from + 2 ≤ to
   quoted-bytes at t from to i e = let n = wide at t from to i in let q = quotes t e in omega arith
+
+  before-all : (p : Placed) (r : Tokens) (ps : List Placed) → before p r ≡ Tokens.all ps → (qs : List Placed) × (r ≡ Tokens.all qs) × (p ∷ qs ≡ ps)
+  before-all p (Tokens.all qs) ps e = (qs, refl, cc)
+  before-all p (Tokens.stray q) ps e = let z : _≡_ {A = ℕ} 0 1 = cc in absurd (omega arith)
+
+  -- where every byte belongs to a token, those that are left are the scan's
+  scanned-left : (d at : ℕ) → length text - at < d → (ps : List Placed) → scan at 0 (drop at text) ≡ Tokens.all ps → upTo d text at ≡ ps
+  scanned-left zero at h ps e = absurd (not-suc-le-zero h)
+  scanned-left (suc d) at h ps e = opened d at ∙ go (next text at) refl (scanned-left d)
+    where
+      go : (x : Next) → next text at ≡ x → ((q : ℕ) → length text - q < d → (qs : List Placed) → scan q 0 (drop q text) ≡ Tokens.all qs → upTo d text q ≡ qs) → onward (next text at) (upTo d text) ≡ ps
+      go (Next.token t from to) i again =
+          let k = known-by text at (Next.token t from to) (sym i) in
+          let j = k .inside in
+          let b = before-all (record { token = t; place = from }) (scan to 0 (drop to text)) ps (sym (k .scanned .0) ∙ e) in
+          ap (λ x. onward x (upTo d text)) i ∙ ap (λ l. record { token = t; place = from } ∷ l) (again to (omega arith) (b .0) (b .1)) ∙ b .2
+      go Next.end i again =
+          let k = known-by text at Next.end (sym i) .scanned in
+          ap (λ x. onward x (upTo d text)) i ∙ cc
+      go (Next.stray p) i again =
+          let k = known-by text at (Next.stray p) (sym i) .scanned in
+          let z : _≡_ {A = ℕ} 0 1 = cc in
+          absurd (omega arith)
+
+  pub left-all : (ps : List Placed) → tokens text ≡ Tokens.all ps → left text 0 ≡ ps
+  unfolding left
+  left-all ps e = scanned-left (suc (length text - 0)) 0 (omega arith) ps e
+
+  all-by : (r : Tokens) → None ≡ judged r → (ps : List Placed) × (r ≡ Tokens.all ps)
+  all-by (Tokens.all ps) e = (ps, refl)
+  all-by (Tokens.stray p) e = let z : _≡_ {A = ℕ} 0 1 = cc in absurd (omega arith)
+
+  stray-by : (r : Tokens) (p : ℕ) → Some p ≡ judged r → r ≡ Tokens.stray p
+  stray-by (Tokens.all ps) p e = let z : _≡_ {A = ℕ} 0 1 = cc in absurd (omega arith)
+  stray-by (Tokens.stray q) p e = cc
+
+  -- a text that the check accepts has tokens
+  pub tokens-all : None ≡ judged (tokens text) → tokens text ≡ Tokens.all (left text 0)
+  tokens-all e = let a = all-by (tokens text) e in a .1 ∙ ap Tokens.all (sym (left-all (a .0) (a .1)))
+
+  pub tokens-stray : (p : ℕ) → Some p ≡ judged (tokens text) → tokens text ≡ Tokens.stray p
+  tokens-stray p e = stray-by (tokens text) p e

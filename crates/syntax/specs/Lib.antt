@@ -2,3 +2,6 @@ pub mod Left
 pub mod Sight
 pub mod Trees
 pub mod Parsing
+pub mod Refusal
+pub mod Whole
+pub mod Ended

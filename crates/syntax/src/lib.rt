@@ -4,5 +4,7 @@ pub mod leaves;
 pub mod names;
 pub mod node;
 pub mod number;
+pub mod refusal;
+pub mod rule;
 pub mod sight;
 pub mod table;
