@@ -17,12 +17,14 @@ use Rattle.grammar.proofs.Steps.{rule-halts}
 use Rattle.grammar.proofs.Whole.{law}
 use Rattle.syntax.specs.declared.node.Node.{Node}
 use Rattle.syntax.specs.declared.node.Got.{Got}
+use Rattle.syntax.specs.declared.node.Method.{Method}
+use Rattle.syntax.specs.declared.node.Class.{Class}
 use Rattle.syntax.specs.declared.rule.Rule.{Rule}
 use Rattle.syntax.specs.declared.sight.Sort.{Sort}
 use Rattle.syntax.specs.Left.{left, terms, places}
 use Rattle.syntax.specs.Sight.{shown}
 use Rattle.syntax.specs.Refusal.{kinds, placesOf, Lexes, Breaks}
-use Rattle.syntax.specs.Whole.{Written, RuleStands}
+use Rattle.syntax.specs.Whole.{Written, RuleStands, ClassStands, ClassRead}
 use Rattle.syntax.specs.Parsing.{Sequence, Refused}
 use Rattle.syntax.specs.Ended.{RuleRead, TextStuck, RuleStuck}
 use Rattle.syntax.proofs.Reading.{Sees, terms-see, places-see}
@@ -102,3 +104,7 @@ stray-inside text p e =
     let h = stuck-some (drop p text) (s .1 .1) in
     let d = length-drop p text in
     omega arith
+
+pub class-stands : {text : List ℕ} {base : ℕ} {ys : List Node} {rs : List Method} {g : Class} → Lexes text (left text 0) → ClassRead text base ys rs g → ClassStands text base ys rs g
+class-stands l R =
+    record { class = R .class; written = written (Text.class (R .class)) l (R .way) (R .noted); many = R .many; name = R .name; parent = R .parent; held = R .held }

@@ -1,4 +1,5 @@
 // From a text to the one tree that it has, standing in a lent node table, or the refusal of it.
+pub mod class;
 pub mod expression;
 pub mod leaves;
 pub mod names;

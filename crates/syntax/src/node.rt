@@ -73,3 +73,51 @@ pub struct Target {
     pub to: u16,
     pub value: u16,
 }
+
+// The parameters of a method: how many there are, and the names of the first four.
+#[derive(Clone, Copy)]
+pub struct Parameters {
+    pub count: u16,
+    pub names: [Span; 4],
+}
+
+// A method: its name, its parameters, and the root of its body.
+#[derive(Clone, Copy)]
+pub struct Method {
+    pub name: Span,
+    pub parameters: Parameters,
+    pub root: u16,
+}
+
+// Parameters that were read, and how many names of the body they make.
+#[derive(Clone, Copy)]
+pub struct Listed {
+    pub to: u16,
+    pub parameters: Parameters,
+    pub names: u8,
+}
+
+// A method that was read, and how many nodes there are so far.
+#[derive(Clone, Copy)]
+pub struct Defined {
+    pub to: u16,
+    pub nodes: u16,
+    pub method: Method,
+}
+
+// Methods that were read: how many nodes and methods there are so far.
+#[derive(Clone, Copy)]
+pub struct Members {
+    pub to: u16,
+    pub nodes: u16,
+    pub count: u16,
+}
+
+// A class: its name, its parent's, how many methods are recorded, and how many nodes their bodies have.
+#[derive(Clone, Copy)]
+pub struct Class {
+    pub name: Span,
+    pub parent: Span,
+    pub methods: u16,
+    pub nodes: u16,
+}
