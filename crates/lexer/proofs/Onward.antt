@@ -30,8 +30,16 @@ Onward text at (Next.token t from to) = judged (scan at 0 (drop at text)) ≡ ju
 Onward text at Next.end = judged (scan at 0 (drop at text)) ≡ None
 Onward text at (Next.stray p) = judged (scan at 0 (drop at text)) ≡ Some p
 
+-- the scan goes on behind the token, whose bytes stand in the text
+abbrev pub Scanned : List ℕ → ℕ → Next → Type 0
+Scanned text at (Next.token t from to) =
+    (scan at 0 (drop at text) ≡ before (record { token = t; place = from }) (scan to 0 (drop to text))) × (drop from text ≡ spelling t ++ drop to text)
+Scanned text at Next.end = scan at 0 (drop at text) ≡ all []
+Scanned text at (Next.stray p) = scan at 0 (drop at text) ≡ stray p
+
 -- all that is said of the next token
 pub record Known (text : List ℕ) (at : ℕ) (x : Next) : Type 0 where
+  pub scanned : Scanned text at x
   pub onward : Onward text at x
   pub inside : Inside (length text) at x
   pub stands : Stands text at x
@@ -112,14 +120,22 @@ module _ (text : List ℕ) (at from : ℕ) (past : at ≤ from) (inside : from <
   known-first : (skip : (ps : List Placed) (rest : List ℕ) → Reads from (drop from text) ps rest → Reads at (drop at text) ps rest)
       → (o : Option Terminal) → first (drop from text) ≡ o → Known text at (placed from o)
   known-first skip None e =
-      record { onward = ap judged (same ∙ scan-first from (drop from text) None stop left-some e);
-               inside = (past, inside);
-               stands = (skip [] (drop from text) here, halting (drop from text) stop left-some e) }
+      let s = same ∙ scan-first from (drop from text) None stop left-some e in
+      record {
+        scanned = s;
+        onward = ap judged s;
+        inside = (past, inside);
+        stands = (skip [] (drop from text) here, halting (drop from text) stop left-some e);
+      }
   known-first skip (Some t) e =
       let g = standing t e in
-      record { onward = ap judged (same ∙ scan-item (drop from text) from t _ g) ∙ judged-before _ _;
-               inside = inside-token t g;
-               stands = skip _ _ (item g here) }
+      let s = same ∙ scan-item (drop from text) from t _ g in
+      record {
+        scanned = (s, g .written);
+        onward = ap judged s ∙ judged-before _ _;
+        inside = inside-token t g;
+        stands = skip _ _ (item g here);
+      }
 
 module _ (text : List ℕ) (at : ℕ) where
   from : ℕ
@@ -149,7 +165,7 @@ module _ (text : List ℕ) (at : ℕ) where
       ⊎-elim
       (λ h. subst (Known text at) (sym (next-placed text at from refl h)) (known-first text at from (omega arith) h same-scan stopped skipped (first (drop from text)) refl))
       (λ h. subst (Known text at) (sym (next-end text at from refl h))
-        (record { onward = ap judged (same-scan ∙ ap (scan from 0) (ended h)); inside = tt; stands = skipped [] [] (subst (λ l. Reads from l [] []) (sym (ended h)) here) }))
+      (record { scanned = same-scan ∙ ap (scan from 0) (ended h); onward = ap judged (same-scan ∙ ap (scan from 0) (ended h)); inside = tt; stands = skipped [] [] (subst (λ l. Reads from l [] []) (sym (ended h)) here) }))
       (cases-lt from (length text))
 
 -- of an answer that is the next

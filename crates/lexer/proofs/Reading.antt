@@ -81,22 +81,31 @@ meant-item : (at : ℕ) (bytes : List ℕ) (t : Terminal) (more : List ℕ) (r :
     → Meant at bytes (before (record { token = t; place = at }) r)
 meant-item at bytes t more (all ps) g m = item g m
 meant-item at bytes t more (stray p) g m =
-    record { read = record { token = t; place = at } ∷ m .read; rest = m .rest; reads = item g (m .reads); halts = m .halts;
-             place = let n = ap length (g .written) in let k = length-append (spelling t) more in omega arith }
+    record {
+      read = record { token = t; place = at } ∷ m .read;
+      rest = m .rest;
+      reads = item g (m .reads);
+      halts = m .halts;
+      place = let n = ap length (g .written) in let k = length-append (spelling t) more in omega arith;
+    }
 
 -- what the scan says of the bytes behind the first is known
 module _ (at b : ℕ) (bs : List ℕ) (again : (n : ℕ) → n ≤ length bs → Meant (at + 1 + n) (drop n bs) (scan (at + 1) n bs)) where
   meant-took : blank b ≡ false → (o : Option Terminal) → first (b ∷ bs) ≡ o → Meant at (b ∷ bs) (took at (λ n. scan (at + 1) n bs) o)
   meant-took e None f =
-      record { read = []; rest = b ∷ bs; reads = here;
-               halts = stuck e (λ t more g. let h = first-complete (b ∷ bs) t more g in let z : _≡_ {A = ℕ} 0 1 = cc in omega arith);
-               place = refl }
+      record {
+        read = [];
+        rest = b ∷ bs;
+        reads = here;
+        halts = stuck e (λ t more g. let h = first-complete (b ∷ bs) t more g in let z : _≡_ {A = ℕ} 0 1 = cc in omega arith);
+        place = refl;
+      }
   meant-took e (Some t) f =
       let s = first-sound b bs t f in
       let m = again (pred (length (spelling t))) (rest-inside at b bs t (s .0) (s .1)) in
       let r = scan (at + 1) (pred (length (spelling t))) bs in
       let here-on : Meant (at + length (spelling t)) (s .0) r =
-            subst (λ a. Meant a (s .0) r) (rest-place at b bs t (s .0) (s .1)) (subst (λ l. Meant (at + 1 + pred (length (spelling t))) l r) (rest-left at b bs t (s .0) (s .1)) m) in
+      subst (λ a. Meant a (s .0) r) (rest-place at b bs t (s .0) (s .1)) (subst (λ l. Meant (at + 1 + pred (length (spelling t))) l r) (rest-left at b bs t (s .0) (s .1)) m) in
       meant-item at (b ∷ bs) t (s .0) r (s .1) here-on
 
   meant-byte : (x : Bool) → blank b ≡ x → Meant at (b ∷ bs) (cond x (scan (at + 1) 0 bs) (took at (λ n. scan (at + 1) n bs) (first (b ∷ bs))))
@@ -133,9 +142,9 @@ scan-item (b ∷ bs) at t more g =
     cond-false (blank b) _ _ (no-token-is-blank b bs t f (blank b) refl)
     ∙ ap (took at (λ k. scan (at + 1) k bs)) f
     ∙ ap (before (record { token = t; place = at }))
-      (scan-inside (at + 1) n bs (rest-inside at b bs t more g)
-      ∙ ap (λ a. scan a 0 (drop n bs)) (rest-place at b bs t more g)
-      ∙ ap (scan (at + length (spelling t)) 0) (rest-left at b bs t more g))
+    (scan-inside (at + 1) n bs (rest-inside at b bs t more g)
+    ∙ ap (λ a. scan a 0 (drop n bs)) (rest-place at b bs t more g)
+    ∙ ap (scan (at + length (spelling t)) 0) (rest-left at b bs t more g))
 
 reads-scan : {at : ℕ} {bytes : List ℕ} {ps : List Placed} → Reads at bytes ps [] → scan at 0 bytes ≡ all ps
 unfolding scan
@@ -165,8 +174,8 @@ law = record {
   refused = λ text p e. refused-at text p (subst (Meant 0 text) e (tokens-meant text));
   longest = longest;
   reserved = λ bytes more w k g e.
-    let f : keywordOf w ≡ Some k = ap keywordOf e ∙ keyword-found k in
-    let n = g .formed .1 in
-    let z : _≡_ {A = ℕ} 0 1 = cc in
-    omega arith;
+      let f : keywordOf w ≡ Some k = ap keywordOf e ∙ keyword-found k in
+      let n = g .formed .1 in
+      let z : _≡_ {A = ℕ} 0 1 = cc in
+      omega arith;
 }

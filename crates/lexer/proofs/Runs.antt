@@ -23,14 +23,18 @@ pub record Split (f : ℕ → Bool) (bs : List ℕ) : Type 0 where
 split-by : (f : ℕ → Bool) (b : ℕ) (bs : List ℕ) (t : Bool) → f b ≡ t → Split f bs → Split f (b ∷ bs)
 split-by f b bs true e s =
     let p = front-passes f b bs e in
-    record { whole = ap (λ l. b ∷ l) (s .whole) ∙ sym (ap (λ l. l ++ drop (length l) (b ∷ bs)) p);
-             passing = rw p (e, s .passing);
-             stopping = rw p (s .stopping) }
+    record {
+      whole = ap (λ l. b ∷ l) (s .whole) ∙ sym (ap (λ l. l ++ drop (length l) (b ∷ bs)) p);
+      passing = rw p (e, s .passing);
+      stopping = rw p (s .stopping);
+    }
 split-by f b bs false e s =
     let p = front-stops f b bs e in
-    record { whole = sym (ap (λ l. l ++ drop (length l) (b ∷ bs)) p);
-             passing = rw p tt;
-             stopping = rw p e }
+    record {
+      whole = sym (ap (λ l. l ++ drop (length l) (b ∷ bs)) p);
+      passing = rw p tt;
+      stopping = rw p e;
+    }
 
 pub split : (f : ℕ → Bool) (bs : List ℕ) → Split f bs
 unfolding front

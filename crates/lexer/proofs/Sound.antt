@@ -41,14 +41,18 @@ module _ (b : ℕ) (bs : List ℕ) where
   begins-word : identifying b ≡ true → Stops (lone run) (left identifying bs) → (o : Option Keyword) → keywordOf run ≡ o → Begins (b ∷ bs) (worded run o) (left identifying bs)
   begins-word i l None e =
       let s = split identifying bs in
-      record { formed = ((omega arith, (i, s .passing)), e);
-               written = ap (λ x. b ∷ x) (s .whole);
-               parted = stops-both identifying (lone run) (left identifying bs) (s .stopping) l }
+      record {
+        formed = ((omega arith, (i, s .passing)), e);
+        written = ap (λ x. b ∷ x) (s .whole);
+        parted = stops-both identifying (lone run) (left identifying bs) (s .stopping) l;
+      }
   begins-word i l (Some k) e =
       let s = split identifying bs in
-      record { formed = tt;
-               written = ap (λ x. b ∷ x) (s .whole) ∙ ap (λ w. w ++ left identifying bs) (keyword-spells run k e);
-               parted = s .stopping }
+      record {
+        formed = tt;
+        written = ap (λ x. b ∷ x) (s .whole) ∙ ap (λ w. w ++ left identifying bs) (keyword-spells run k e);
+        parted = s .stopping;
+      }
 
   pub found-word : identifying b ≡ true → Stops (lone run) (left identifying bs) → Found (b ∷ bs) (wordOf b bs)
   found-word i l = (left identifying bs, begins-word i l (keywordOf run) refl)
@@ -90,9 +94,11 @@ found-field b bs (c ∷ w) e f None k t n =
     let s = split identifying bs in
     let t-is : field (64 ∷ (c ∷ w)) ≡ t = cc in
     let begins : Begins (b ∷ bs) (field (64 ∷ (c ∷ w))) (left identifying bs) =
-          record { formed = (refl, ((omega arith, rw f at (s .passing)), k));
-                   written = (λ i. e i ∷ (s .whole ∙ ap (λ x. x ++ left identifying bs) f) i);
-                   parted = s .stopping } in
+    record {
+      formed = (refl, ((omega arith, rw f at (s .passing)), k));
+      written = (λ i. e i ∷ (s .whole ∙ ap (λ x. x ++ left identifying bs) f) i);
+      parted = s .stopping;
+    } in
     (left identifying bs, rw t-is at begins)
 found-field b bs (c ∷ w) e f (Some j) k t n = let z : _≡_ {A = ℕ} 0 1 = cc in absurd (omega arith)
 
@@ -109,9 +115,11 @@ found-string b bs e true l t n =
     let c = closing w bs (left (goesOn Quoted) bs) (s .whole) (ltb-true _ _ l) (s .stopping) in
     let t-is : string w ≡ t = cc in
     let begins : Begins (b ∷ bs) (string w) (c .0) =
-          record { formed = s .passing;
-                   written = (λ i. e i ∷ (c .1 ∙ sym (append-assoc w (34 ∷ []) (c .0))) i);
-                   parted = stops-never (λ _. false) (c .0) (λ _. refl) } in
+    record {
+      formed = s .passing;
+      written = (λ i. e i ∷ (c .1 ∙ sym (append-assoc w (34 ∷ []) (c .0))) i);
+      parted = stops-never (λ _. false) (c .0) (λ _. refl);
+    } in
     (c .0, rw t-is at begins)
 found-string b bs e false l t n = let z : _≡_ {A = ℕ} 0 1 = cc in absurd (omega arith)
 

@@ -3,7 +3,7 @@ ghost use mathlib.Core.Path.{_≡_};
 ghost use Rattle.lexer.specs.Keyword.{word};
 ghost use Rattle.lexer.specs.Token.{terminal, kindName};
 
-#[derive(Clone, Copy)]
+#[derive(Clone, Copy, PartialEq, Eq)]
 pub enum Keyword {
     Class,
     Begin,
@@ -42,7 +42,7 @@ impl Keyword {
     }
 }
 
-#[derive(Clone, Copy)]
+#[derive(Clone, Copy, PartialEq, Eq)]
 pub enum Symbol {
     Dot,
     Comma,

@@ -15,7 +15,7 @@ returns-then-at-text c =
 pub returns-then-from-text : need.returns-then-from-text
 returns-then-from-text c =
     let is : end ≡ next (c .args .text .now) (c .args .at) =
-          sym (next-end (c .args .text .now) (c .args .at) (c .run-end-from .result) (c .run-end-from .ensures .longest) (omega arith)) in
+    sym (next-end (c .args .text .now) (c .args .at) (c .run-end-from .result) (c .run-end-from .ensures .longest) (omega arith)) in
     let k = known-by (c .args .text .now) (c .args .at) _ is in
     record { the-next = is; stands-behind-blanks = k .stands; inside-the-text = k .inside }
 
@@ -24,7 +24,7 @@ returns-in-Break-token-at c =
     let p = err-from-errBy (c .from-residual .result) (c .from-residual .ensures .1) in
     let here = next-placed (c .args .text .now) (c .args .at) (c .run-end-from .result) (c .run-end-from .ensures .longest) (omega arith) in
     let is : answer (c .from-residual .result) ≡ next (c .args .text .now) (c .args .at) =
-          ap answer (p .1) ∙ ap (λ s. stray (s .0)) (p .2) ∙ c .in-Break-token-at .ensures tt .by-the-first-byte ∙ sym here in
+    ap answer (p .1) ∙ ap (λ s. stray (s .0)) (p .2) ∙ c .in-Break-token-at .ensures tt .by-the-first-byte ∙ sym here in
     let k = known-by (c .args .text .now) (c .args .at) _ is in
     record { the-next = is; stands-behind-blanks = k .stands; inside-the-text = k .inside }
 
@@ -32,6 +32,6 @@ pub returns : need.returns
 returns c =
     let here = next-placed (c .args .text .now) (c .args .at) (c .run-end-from .result) (c .run-end-from .ensures .longest) (omega arith) in
     let is : lexed (c .in-Continue-token-at .field-0) ≡ next (c .args .text .now) (c .args .at) =
-          c .in-Continue-token-at .ensures tt .by-the-first-byte ∙ sym here in
+    c .in-Continue-token-at .ensures tt .by-the-first-byte ∙ sym here in
     let k = known-by (c .args .text .now) (c .args .at) _ is in
     record { the-next = is; stands-behind-blanks = k .stands; inside-the-text = k .inside }
