@@ -1,0 +1,2 @@
+pub mod Val
+pub mod Tables
