@@ -1,0 +1,10 @@
+pub mod Limits
+pub mod Ending
+pub mod Outcome
+pub mod Arith
+pub mod Effects
+pub mod Builtin
+pub mod Instr
+pub mod State
+pub mod Step
+pub mod Run
