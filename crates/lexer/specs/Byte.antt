@@ -21,6 +21,10 @@ digit b = between 48 57 b
 abbrev pub letter : ℕ → Bool
 letter b = between 97 122 b || between 65 90 b
 
+-- the sign of an integer, and a character of identifiers
+abbrev pub minus : ℕ
+minus = 45
+
 -- the letters and + - * / _ ! ?
 abbrev pub identifying : ℕ → Bool
 identifying b =
