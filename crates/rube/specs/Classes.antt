@@ -1,7 +1,7 @@
 -- Classes and the methods that they find. Assumes nothing.
 use mathlib.Core.Bool.{Bool, true, false, cond, not, _||_}
 use mathlib.Core.List.{List, [], _∷_, _++_, map, reverse}
-use Prim.Native.Nat.{ℕ, _+_, _*_}
+use Prim.Native.Nat.{ℕ, suc, _+_}
 use lib.ListN.{length}
 use Rattle.std.specs.declared.option.Option.{Option}
 use Rattle.std.specs.declared.option.Option.the-variants.{Some, None}
@@ -12,10 +12,10 @@ use Rattle.rube.specs.declared.builtin.Builtin.{Builtin}
 use Rattle.rube.specs.Builtin as builtin
 use Rattle.rube.specs.Builtin.{className, builtinClasses}
 
--- what is entered when a method is: one of ours, or the method that a class defines
+-- what is entered when a method is: one of ours, or the method that a class defines, with its number among all that were added
 pub data Callee (A : Type 0) : Type 0 where
   builtIn : (parameters : ℕ) → Operation → Callee A
-  written : Method A → Callee A
+  written : (number : ℕ) → Method A → Callee A
 
 -- a method under its name
 pub record Named (A : Type 0) : Type 0 where
@@ -26,10 +26,14 @@ pub record Named (A : Type 0) : Type 0 where
 abbrev pub Classes : Type 0 → Type 0
 Classes A = List (Class A)
 
+abbrev pub among : List (List ℕ) → List ℕ → Bool
+among [] C = false
+among (D ∷ Ds) C = sameBytes D C || among Ds C
+
 module _ {A : Type 0} where
   abbrev pub parameterCount : Callee A → ℕ
   parameterCount (Callee.builtIn n o) = n
-  parameterCount (Callee.written m) = length (m .parameters)
+  parameterCount (Callee.written i m) = length (m .parameters)
 
   -- the rows of a built-in class
   abbrev pub rowsOf : List ℕ → List Builtin → List (List ℕ) → List (Named A)
@@ -40,9 +44,19 @@ module _ {A : Type 0} where
       (record { name = n; callee = Callee.builtIn (b .parameters) (b .operation) } ∷ rowsOf C bs ns)
       (rowsOf C bs ns)
 
-  abbrev pub own : List (Method A) → List (Named A)
-  own [] = []
-  own (m ∷ ms) = record { name = m .name; callee = Callee.written m } ∷ own ms
+  -- the methods of a class, numbered from i on
+  abbrev pub own : ℕ → List (Method A) → List (Named A)
+  own i [] = []
+  own i (m ∷ ms) = record { name = m .name; callee = Callee.written i m } ∷ own (suc i) ms
+
+  -- how many methods were added, and all of them, the oldest first
+  abbrev pub addedMethods : Classes A → ℕ
+  addedMethods [] = 0
+  addedMethods (K ∷ older) = addedMethods older + length (K .methods)
+
+  abbrev pub allMethods : Classes A → List (Method A)
+  allMethods [] = []
+  allMethods (K ∷ older) = allMethods older ++ K .methods
 
   abbrev pub find : List ℕ → List (Named A) → Option (Callee A)
   find x [] = None
@@ -61,7 +75,9 @@ module _ {A : Type 0} where
   unfoldable pub visible : Classes A → List ℕ → List (Named A)
   visible [] C = rowsOf C builtin.table builtin.names
   visible (K ∷ older) C =
-      cond (sameBytes (K .name) C) (own (K .methods) ++ inherited (own (K .methods)) (visible older (K .parent))) (visible older C)
+      cond (sameBytes (K .name) C)
+      (own (addedMethods older) (K .methods) ++ inherited (own (addedMethods older) (K .methods)) (visible older (K .parent)))
+      (visible older C)
 
   abbrev pub lookup : Classes A → List ℕ → List ℕ → Option (Callee A)
   lookup P C x = find x (visible P C)
@@ -69,10 +85,6 @@ module _ {A : Type 0} where
   -- all classes, built-in ones first, then by acceptance
   abbrev pub classNames : Classes A → List (List ℕ)
   classNames P = map className builtinClasses ++ reverse (map (λ K. K .name) P)
-
-  abbrev pub among : List (List ℕ) → List ℕ → Bool
-  among [] C = false
-  among (D ∷ Ds) C = sameBytes D C || among Ds C
 
   abbrev pub known : Classes A → List ℕ → Bool
   known P C = among (classNames P) C
