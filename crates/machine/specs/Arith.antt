@@ -29,6 +29,6 @@ arith Sub x y = fitted (x -ℤ y)
 arith Mul x y = fitted (x *ℤ y)
 arith Div x y = quotient x y
 
-unfoldable pub inOrder : Order → ℤ → ℤ → Bool
+abbrev pub inOrder : Order → ℤ → ℤ → Bool
 inOrder Less x y = ltZ x y
 inOrder AtMost x y = leZ x y

@@ -17,16 +17,17 @@ use Rattle.machine.specs.Outcome.{Outcome, _>>=_}
 use Rattle.machine.specs.Effects.{Effects, charge, print}
 
 -- their numbers lie above those of all laid functions
-abbrev pub numberOf : Builtin → ℕ
-numberOf PrintValue = 65280
-numberOf ToS = 65281
-numberOf Concat = 65282
-numberOf Length = 65283
+abbrev pub builtinNumber : Builtin → ℕ
+builtinNumber PrintValue = 65280
+builtinNumber ToS = 65281
+builtinNumber Concat = 65282
+builtinNumber Length = 65283
 
-unfoldable pub builtinOf : ℕ → Option Builtin
+abbrev pub builtinOf : ℕ → Option Builtin
 builtinOf g =
-    cond (eqb g 65280) (Some PrintValue)
-    (cond (eqb g 65281) (Some ToS) (cond (eqb g 65282) (Some Concat) (cond (eqb g 65283) (Some Length) None)))
+    cond (eqb g (builtinNumber PrintValue)) (Some PrintValue)
+    (cond (eqb g (builtinNumber ToS)) (Some ToS)
+    (cond (eqb g (builtinNumber Concat)) (Some Concat) (cond (eqb g (builtinNumber Length)) (Some Length) None)))
 
 -- a value of the kind that is wanted; any other is stuck
 abbrev pub integerIn : Val → Outcome ℤ

@@ -21,14 +21,17 @@ pub record Effects : Type 0 where
 abbrev pub nothingYet : ℕ → Effects
 nothingYet left = record { strings = 0; bytes = 0; output = []; left = left }
 
+abbrev pub charged : ℕ → Effects → Effects
+charged n o = record { strings = suc (o .strings); bytes = o .bytes + n; output = o .output; left = o .left }
+
+abbrev pub printed : List ℕ → Effects → Effects
+printed s o = record { strings = o .strings; bytes = o .bytes; output = o .output ++ s; left = o .left - length s }
+
 -- one more string of n bytes is charged, or there is no space for it
 unfoldable pub charge : ℕ → Effects → Outcome Effects
 charge n o =
-    unless NoTextSpace (ltb (o .strings) mostStrings && leb (o .bytes + n) mostStringBytes)
-    (Ok record { strings = suc (o .strings); bytes = o .bytes + n; output = o .output; left = o .left })
+    unless NoTextSpace (ltb (o .strings) mostStrings && leb (o .bytes + n) mostStringBytes) (Ok (charged n o))
 
 -- a print that does not fit writes nothing
 unfoldable pub print : List ℕ → Effects → Outcome Effects
-print s o =
-    unless NoOutputSpace (leb (length s) (o .left))
-    (Ok record { strings = o .strings; bytes = o .bytes; output = o .output ++ s; left = o .left - length s })
+print s o = unless NoOutputSpace (leb (length s) (o .left)) (Ok (printed s o))

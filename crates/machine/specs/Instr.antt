@@ -12,8 +12,8 @@ use Rattle.machine.specs.declared.arith.Op.{Op}
 use Rattle.machine.specs.declared.arith.Op.the-variants as op
 use Rattle.machine.specs.declared.arith.Order.{Order}
 use Rattle.machine.specs.declared.arith.Order.the-variants as order
-use Rattle.machine.specs.declared.arith.Kind.{Kind}
-use Rattle.machine.specs.declared.arith.Kind.the-variants as kind
+use Rattle.machine.specs.declared.instruction.Kind.{Kind}
+use Rattle.machine.specs.declared.instruction.Kind.the-variants as kind
 use Rattle.machine.specs.declared.instruction.Instruction.{Instruction}
 use Rattle.machine.specs.declared.instruction.Instruction.the-variants as code
 

@@ -6,5 +6,7 @@ pub mod Effects
 pub mod Builtin
 pub mod Instr
 pub mod State
+pub mod Operands
 pub mod Step
 pub mod Run
+pub mod Law

@@ -11,7 +11,6 @@ abbrev pub Outcome : Type 0 → Type 0
 Outcome A = Result A Ending
 
 infixl 20 _>>=_
-
 -- an ending ends what would follow
 abbrev pub _>>=_ : {A B : Type 0} → Result A Ending → (A → Result B Ending) → Result B Ending
 Ok x >>= f = f x

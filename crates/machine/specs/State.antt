@@ -38,6 +38,15 @@ pub record World : Type 0 where
   pub globals : Table
   pub effects : Effects
 
+abbrev pub withTables : Tables → World → World
+withTables T W = record { tables = T; globals = W .globals; effects = W .effects }
+
+abbrev pub withGlobals : Table → World → World
+withGlobals G W = record { tables = W .tables; globals = G; effects = W .effects }
+
+abbrev pub withEffects : Effects → World → World
+withEffects o W = record { tables = W .tables; globals = W .globals; effects = o }
+
 -- the running frame, and the callers that wait, the latest first
 pub data State : Type 0 where
   at : (f pc : ℕ) (R : Registers) (S : List Frame) (W : World) → State
@@ -46,8 +55,8 @@ abbrev pub worldOf : State → World
 worldOf (at f pc R S W) = W
 
 -- a run begins at place 0 of function 0, with no table and no global
-abbrev pub start : ℕ → State
-start left = at 0 0 (passed []) [] (record { tables = []; globals = []; effects = nothingYet left })
+abbrev pub initial : ℕ → State
+initial left = at 0 0 (passed []) [] (record { tables = []; globals = []; effects = nothingYet left })
 
 -- a step leads on, or ends the run with what it has made and printed; an ending step changes nothing
 pub data Next : Type 0 where

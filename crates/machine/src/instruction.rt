@@ -1,16 +1,21 @@
 // The instructions of the machine, in the order of the machine's table.
 use store::value::Identifier;
 use store::value::Value;
-use crate::arith::Kind;
-use crate::arith::Op;
-use crate::arith::Order;
+
+// The kinds of values that a program can ask for.
+#[derive(Clone, Copy)]
+pub enum Kind {
+    Integer,
+    Text,
+    Table,
+}
 
 // A register of the running frame; never a place in the code or a table.
-#[derive(Clone, Copy, PartialEq, Eq)]
+#[derive(Clone, Copy)]
 pub struct Register(pub u8);
 
 // How far a jump goes from the instruction behind it.
-#[derive(Clone, Copy, PartialEq, Eq)]
+#[derive(Clone, Copy)]
 pub struct Offset(pub i32);
 
 #[derive(Clone, Copy)]

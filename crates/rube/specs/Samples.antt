@@ -51,10 +51,14 @@ pub record Sample : Type 0 where
 abbrev pub setting : Classes (Unit {0}) → Setting (Unit {0})
 setting P = record { classes = P; limits = record { tables = 4096; pairs = 16384 } }
 
--- how a sample ends, at a clock that suffices for all of them
+-- how a sample ends, at a clock
+abbrev pub answerAt : ℕ → Sample → Option Ended
+answerAt k x =
+    withClasses (x .classes) [] (λ P. withRule (treeOf Kind.rule (tokens (x .rule))) (λ e. ended (meaning (setting P) 16384 e k)))
+
+-- this clock suffices for all of them
 abbrev pub answer : Sample → Option Ended
-answer x =
-    withClasses (x .classes) [] (λ P. withRule (treeOf Kind.rule (tokens (x .rule))) (λ e. ended (meaning (setting P) 16384 e 8)))
+answer = answerAt 8
 
 abbrev A : List ℕ
 A = codes "class A < Object begin def initialize(x) @v = x end def get() @v end end"
@@ -74,7 +78,7 @@ pub record Row : Type 0 where
   pub ending : Ending
   pub output : List ℕ
 
-abbrev row : Sample → Ending → List ℕ → Row
+abbrev pub row : Sample → Ending → List ℕ → Row
 row x e o = record { sample = x; ending = e; output = o }
 
 abbrev pub rows : List Row

@@ -1,0 +1,2 @@
+// The compiler.
+pub fn one() -> u8 { 1 }

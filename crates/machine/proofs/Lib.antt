@@ -1,0 +1,7 @@
+pub mod Judge
+pub mod Registers
+pub mod Exec
+pub mod Runs
+pub mod Onward
+pub mod Wraps
+pub mod Samples
