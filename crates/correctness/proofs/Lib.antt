@@ -1,0 +1,3 @@
+pub mod Relation
+pub mod Segments
+pub mod Following

@@ -1,0 +1,2 @@
+// The compiled rule says what the written one means.
+pub fn one() -> u8 { 1 }
