@@ -2,3 +2,5 @@ pub mod Relation
 pub mod Segments
 pub mod Following
 pub mod Registers
+pub mod Judged
+pub mod Forms
