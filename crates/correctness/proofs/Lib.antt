@@ -4,3 +4,4 @@ pub mod Following
 pub mod Registers
 pub mod Judged
 pub mod Forms
+pub mod Returning
