@@ -1,7 +1,11 @@
 pub mod Relation
 pub mod Segments
 pub mod Following
+pub mod Values
+pub mod Tabled
 pub mod Registers
 pub mod Judged
 pub mod Forms
 pub mod Returning
+pub mod Classed
+pub mod Fields
