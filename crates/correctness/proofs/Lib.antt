@@ -1,3 +1,5 @@
 pub mod Relation
 pub mod Segments
 pub mod Following
+pub mod Values
+pub mod Tabled
