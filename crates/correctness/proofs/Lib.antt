@@ -9,3 +9,4 @@ pub mod Forms
 pub mod Returning
 pub mod Classed
 pub mod Fields
+pub mod Calls
