@@ -39,7 +39,7 @@ use Rattle.compiler.specs.Layout.{placeIn, free, functionOf}
 use Rattle.compiler.specs.Pieces.{number, classInto, require, send}
 use Rattle.compiler.specs.Body.{compile, compiles}
 use Rattle.correctness.specs.Fitting.{Fit, Fits, MethodName}
-use Rattle.correctness.proofs.Relation.{shift, tablesOf, world, Globals, Fine, FineHeap, Proper, Stand, Grows, Keep}
+use Rattle.correctness.proofs.Relation.{shift, tablesOf, world, Globals, Fine, Sound, Proper, Stand, Grows, Keep}
 use Rattle.correctness.proofs.Segments as seg
 use Rattle.correctness.proofs.Segments.{Seg, Split, split, seg-end, head, tail, last}
 use Rattle.correctness.proofs.Following.{Sim, bind, finish, count-then, step-then, loop-then, slack, done, ending, weaken}
@@ -115,7 +115,7 @@ module _ {A : Type 0} (P : Classes A) (L : Limits) (C : Program) (G : Table) (gl
       pub sim : {f pc t a last : ℕ} {S : List Frame} {R : Registers} (s : State) (r : Val) (vs : List Val) (x : List ℕ) (d : ℕ)
           → Fetch C f pc (Instr.call a t last) → t < registersPerFrame → d + suc (length S) ≡ 31
           → lookup P (classOf (s .heap) r) x ≡ Some f′ → Fine P (s .heap) r → All (Fine P (s .heap)) vs
-          → FineHeap P (s .heap) → heap.fits (setting P L C G globals k again) (s .heap) 0 0 ≡ true
+          → Sound P (s .heap) → heap.fits (setting P L C G globals k again) (s .heap) 0 0 ≡ true
           → Sim P C L G k (at (functionOf f′) 0 (passed (block r vs)) (frame f pc R ∷ S) (world P G s)) 20 (s .counted) f (suc pc) S (Back P L R t s)
             (unless WrongArgumentCount (eqb (length vs) (parameterCount f′)) s (enter (setting P L C G globals k again) again d f′ r vs s))
 
