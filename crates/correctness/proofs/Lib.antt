@@ -3,3 +3,12 @@ pub mod Segments
 pub mod Following
 pub mod Loaded
 pub mod Lookup
+pub mod Values
+pub mod Tabled
+pub mod Registers
+pub mod Judged
+pub mod Forms
+pub mod Returning
+pub mod Classed
+pub mod Fields
+pub mod Calls
