@@ -1,6 +1,8 @@
 pub mod Relation
 pub mod Segments
 pub mod Following
+pub mod Loaded
+pub mod Lookup
 pub mod Values
 pub mod Tabled
 pub mod Registers
