@@ -6,9 +6,11 @@ pub mod Lookup
 pub mod Values
 pub mod Tabled
 pub mod Registers
+pub mod Slots
 pub mod Judged
 pub mod Forms
 pub mod Returning
 pub mod Classed
 pub mod Fields
 pub mod Calls
+pub mod Methods
