@@ -192,7 +192,7 @@ module _ {A : Type 0} (P : Classes A) (L : Limits) (C : Program) (G : Table) (gl
           (framed-then s r vs x f′ d (cs f′ refl) e h₄ w ws (omega arith) fn₄ (more (rw m (has-written R₃ t (number n))) (more i₄ hs₄)) (rw m (tail (tail (tail (tail (tail (tail (tail (tail g)))))))))))))))))
 
     -- an invocation's method is looked up, and entered if it is there
-    send-then : {f p q t : ℕ} {ns : List (List ℕ)} {me : Val} {S : List Frame} {R₀ : Registers} {H₀ : Heap} {R : Registers} (s : State) (r : Val) (vs : List Val) (x : List ℕ) (d n : ℕ)
+    pub send-then : {f p q t : ℕ} {ns : List (List ℕ)} {me : Val} {S : List Frame} {R₀ : Registers} {H₀ : Heap} {R : Registers} (s : State) (r : Val) (vs : List Val) (x : List ℕ) (d n : ℕ)
         → ((f′ : Callee A) → lookup P (classOf (s .heap) r) x ≡ Some f′ → Callable f′) → length vs ≡ n → MethodName x
         → Pre P L ns me d t S R₀ H₀ R s → Fine P (s .heap) r → All (Fine P (s .heap)) vs → t + n + 4 < registersPerFrame
         → Has R (suc t) (shift P r) → Hold R (t + 2) (map (shift P) vs) → Seg C f p (send P t x n) q

@@ -14,3 +14,4 @@ pub mod Classed
 pub mod Fields
 pub mod Calls
 pub mod Methods
+pub mod Closing
