@@ -12,3 +12,4 @@ pub mod Returning
 pub mod Classed
 pub mod Fields
 pub mod Calls
+pub mod Slots

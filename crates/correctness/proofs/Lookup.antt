@@ -44,6 +44,7 @@ use Rattle.rube.specs.Builtin.{className, builtinClasses}
 use Rattle.rube.specs.Classes.{Named, Callee, Classes, among, names, rowsOf, own, find, inherited, visible, lookup, addedMethods, allMethods, classNames, known}
 use Rattle.compiler.specs.Layout.{operationFunction, functionOf}
 use Rattle.compiler.specs.Builtins.{operationParameters}
+use Rattle.correctness.proofs.Values.{bytes-either-way}
 use Rattle.correctness.specs.Accepted.{added, Acceptable, Accepted, Few, mostMethods}
 
 -- names
@@ -51,24 +52,12 @@ use Rattle.correctness.specs.Accepted.{added, Acceptable, Accepted, Few, mostM
 pub same-is : (x y : List ℕ) → sameBytes x y ≡ true → x ≡ y
 same-is x y h = sameBytes-decides x y .0 h
 
-pub same-self : (x : List ℕ) → sameBytes x x ≡ true
-same-self x = sameBytes-decides x x .1 refl
-
-pub same-turned : (x y : List ℕ) → sameBytes x y ≡ sameBytes y x
-same-turned x y = by (sameBytes x y) refl (sameBytes y x) refl
-  where
-    by : (t : Bool) → sameBytes x y ≡ t → (u : Bool) → sameBytes y x ≡ u → t ≡ u
-    by true p true q = refl
-    by true p false q = absurd (both-ways _ q (rw (same-is x y p) (same-self y)))
-    by false p true q = absurd (both-ways _ p (rw (same-is y x q) (same-self x)))
-    by false p false q = refl
-
 -- names that are among others
 
 abbrev pub builtInNames : List (List ℕ)
 builtInNames = map className builtinClasses
 
-among-append : (xs ys : List (List ℕ)) (C : List ℕ) → among (xs ++ ys) C ≡ (among xs C || among ys C)
+pub among-append : (xs ys : List (List ℕ)) (C : List ℕ) → among (xs ++ ys) C ≡ (among xs C || among ys C)
 among-append [] ys C = refl
 among-append (x ∷ xs) ys C = by (sameBytes x C) (among-append xs ys C)
   where
@@ -92,7 +81,7 @@ or-none false = refl
 
 unlike-at : (xs : List (List ℕ)) (C : List ℕ) (i : ℕ) → i < length xs → among xs C ≡ false → sameBytes C (getD xs i []) ≡ false
 unlike-at [] C i l h = absurd (omega arith)
-unlike-at (x ∷ xs) C zero l h = same-turned C x ∙ or-parts (sameBytes x C) (among xs C) h .0
+unlike-at (x ∷ xs) C zero l h = bytes-either-way C x ∙ or-parts (sameBytes x C) (among xs C) h .0
 unlike-at (x ∷ xs) C (suc i) l h = unlike-at xs C i (omega arith) (or-parts (sameBytes x C) (among xs C) h .1)
 
 -- a name that is none of the built-in classes' is unlike each of them
