@@ -298,7 +298,7 @@ nth-left [] ys i x h = let z : _≡_ {A = ℕ} 0 1 = cc in absurd (omega arith)
 nth-left (y ∷ xs) ys zero x h = h
 nth-left (y ∷ xs) ys (suc i) x h = nth-left xs ys i x h
 
-nth-below : {X : Type 0} (xs : List X) (i : ℕ) (x : X) → nth xs i ≡ Some x → i < length xs
+pub nth-below : {X : Type 0} (xs : List X) (i : ℕ) (x : X) → nth xs i ≡ Some x → i < length xs
 nth-below [] i x h = let z : _≡_ {A = ℕ} 0 1 = cc in absurd (omega arith)
 nth-below (y ∷ xs) zero x h = omega arith
 nth-below (y ∷ xs) (suc i) x h = omega (arith, nth-below xs i x h)
