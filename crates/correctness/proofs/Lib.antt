@@ -1,3 +1,4 @@
 pub mod Relation
 pub mod Segments
 pub mod Following
+pub mod Fitted
