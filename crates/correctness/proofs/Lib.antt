@@ -3,3 +3,4 @@ pub mod Segments
 pub mod Following
 pub mod Fitted
 pub mod CodeLength
+pub mod Spelling
