@@ -1,17 +1,21 @@
 -- Every expression within the limits fits a frame: its names have slots, and the registers suffice. Assumes nothing.
-use mathlib.Core.Path.{_≡_, refl, sym, ap, _∙_}
+use mathlib.Core.Path.{_≡_, refl, sym, ap, subst, _∙_}
 use mathlib.Core.Bool.{Bool, true, false, cond, _||_, or-assoc, or-false}
 use mathlib.Core.List.{List, [], _∷_, _++_}
-use Prim.Native.Nat.{ℕ, suc, _+_, _*_, _≤_, _<_}
+use Prim.Native.Nat.{ℕ, zero, suc, _+_, _*_, _≤_, _<_}
 use native.Mathlib.Omega.{arith}
 use lib.ListN.{length, length-append}
+use Rattle.std.specs.Finite.{nth}
+use Rattle.std.specs.declared.option.Option.the-variants.{Some}
+use Rattle.std.specs.shelf.Lists.{All}
 use Rattle.std.specs.shelf.Text.{sameBytes}
+use Rattle.std.proofs.shelf.Elements.{all-append}
 use Rattle.std.proofs.shelf.Equals.{sameBytes-decides}
 use Rattle.std.proofs.shelf.Tests.{or-left, or-right}
 use Rattle.std.proofs.shelf.Ways.{tells}
 use Rattle.machine.specs.Limits.{registersPerFrame}
 use Rattle.lexer.specs.Law.{Word, Field}
-use Rattle.grammar.specs.Tree.{Expr, Args}
+use Rattle.grammar.specs.Tree.{Expr, Args, Method}
 use Rattle.grammar.specs.Limits.{argumentLimit, nameLimit}
 use Rattle.grammar.specs.Measure.{
   depth,
@@ -26,11 +30,13 @@ use Rattle.grammar.specs.Measure.{
   namesAfterArgs,
   namesOf,
   BodyWithin,
+  MethodsWithin,
 }
-use Rattle.rube.specs.Classes.{among}
+use Rattle.rube.specs.Classes.{among, Classes, allMethods}
 use Rattle.compiler.specs.Layout.{slots, free}
 use Rattle.correctness.specs.Fitting.{FieldName, MethodName, Fit, Fits}
-use Rattle.correctness.specs.Spelled.{Spelled, SpelledArgs}
+use Rattle.correctness.specs.Spelled.{Spelled, SpelledArgs, SpelledMethod, SpelledClass}
+use Rattle.correctness.specs.CodeSize.{ClassesWithin}
 
 -- a field is no key of ours
 pub field-name : (x : List ℕ) → Field x → FieldName x
@@ -279,3 +285,26 @@ module _ {A : Type 0} (ns : List (List ℕ)) where
 pub fitted : {A : Type 0} {ps : List (List ℕ)} {e : Expr A} → BodyWithin ps e → Spelled e → Fit (slots ps e) e (free (slots ps e))
 fitted {ps = ps} {e = e} h s =
     fits-from (slots ps e) e (free (slots ps e)) (all-named ps e) s (h .arguments) (omega (arith, slots-few h, h .deep, h .parameters))
+
+-- a method's body fits
+abbrev pub MethodFits : {A : Type 0} → Method A → Type 0
+MethodFits m = Fit (slots (m .parameters) (m .body)) (m .body) (free (slots (m .parameters) (m .body)))
+
+methods-fitted : {A : Type 0} (ms : List (Method A)) → MethodsWithin ms → All SpelledMethod ms → All MethodFits ms
+methods-fitted [] h s = tt
+methods-fitted (m ∷ ms) h s = (fitted (h .0) (s .0 .1), methods-fitted ms (h .1) (s .1))
+
+-- every added method's body fits
+pub all-methods-fitted : {A : Type 0} (P : Classes A) → ClassesWithin P → All SpelledClass P → All MethodFits (allMethods P)
+all-methods-fitted [] h s = tt
+all-methods-fitted (K ∷ P) h s =
+    all-append MethodFits (allMethods P) (K .methods) (all-methods-fitted P (h .1) (s .1)) (methods-fitted (K .methods) (h .0) (s .0))
+
+all-nth : {X : Type 0} (Q : X → Type 0) (xs : List X) (i : ℕ) {x : X} → All Q xs → nth xs i ≡ Some x → Q x
+all-nth Q [] i h e = let z : _≡_ {A = ℕ} 0 1 = cc in absurd (omega arith)
+all-nth Q (y ∷ xs) zero h e = let q : y ≡ _ = cc in subst Q q (h .0)
+all-nth Q (y ∷ xs) (suc i) h e = all-nth Q xs i (h .1) e
+
+-- the body of the method with number i fits
+pub method-fitted : {A : Type 0} (P : Classes A) (i : ℕ) (m : Method A) → ClassesWithin P → All SpelledClass P → nth (allMethods P) i ≡ Some m → MethodFits m
+method-fitted P i m h s e = all-nth MethodFits (allMethods P) i (all-methods-fitted P h s) e

@@ -1,8 +1,14 @@
 -- A tree that was read from a text has names that are spelled as the language's tokens. Assumes nothing.
-use mathlib.Core.Path.{_≡_}
+use mathlib.Core.Path.{_≡_, refl, sym}
+use mathlib.Core.Bool.{Bool, true, false}
 use mathlib.Core.List.{List, [], _∷_, map}
-use Prim.Native.Nat.{ℕ}
+use Prim.Native.Nat.{ℕ, suc}
+use lib.Chars.{codes}
 use Rattle.std.specs.shelf.Lists.{All}
+use Rattle.std.specs.shelf.Text.{sameBytes}
+use Rattle.std.proofs.shelf.Elements.{all-append}
+use Rattle.std.proofs.shelf.Equals.{sameBytes-decides}
+use Rattle.std.proofs.shelf.Tests.{cond-both, or-parts}
 use Rattle.lexer.specs.Token.{Terminal}
 use Rattle.lexer.specs.Tokens.{Placed, Tokens, tokens}
 use Rattle.lexer.specs.Law.{Formed, Reads, here, gap, item}
@@ -11,7 +17,13 @@ use Rattle.grammar.specs.Tree.{Expr, Args, Method, Text, BareText}
 use Rattle.grammar.specs.Grammar.{Kind, toks, argToks, leadToks, nameToks, methodsToks, tokensOf}
 use Rattle.grammar.specs.Machine.{Outcome, parse}
 use Rattle.grammar.proofs.Whole as grammar
-use Rattle.correctness.specs.Spelled.{Spelled, SpelledArgs, SpelledMethod, SpelledText}
+use Rattle.rube.specs.declared.builtin.Builtin.{Builtin}
+use Rattle.rube.specs.Builtin as builtin
+use Rattle.rube.specs.Builtin.{className}
+use Rattle.rube.specs.Classes.{among, Named, Classes, rowsOf, own, names, inherited, visible, addedMethods}
+use Rattle.correctness.specs.Fitting.{MethodName}
+use Rattle.correctness.specs.Spelled.{Spelled, SpelledArgs, SpelledMethod, SpelledClass, SpelledText}
+use Rattle.correctness.proofs.Fitted.{method-name}
 
 -- behind the tokens of parameters
 formed-names : (xs : List (List ℕ)) (r : List Terminal) → All Formed (nameToks xs r) → All Formed r
@@ -80,3 +92,45 @@ reads-formed (item b h) = (b .formed, reads-formed h)
 pub read-spelled : (κ : Kind) (text : List ℕ) (ps : List Placed) (t : BareText) → tokens text ≡ Tokens.all ps → parse κ (map (λ p. p .token) ps) ≡ Outcome.accepted t → SpelledText t
 read-spelled κ text ps t e a =
     formed-text-spelled t (rw (grammar.law κ .sound (map (λ p. p .token) ps) t a .1) (reads-formed (lexer.law .written text ps e)))
+
+-- a name that no key of ours is
+abbrev pub Callable : {A : Type 0} → Named A → Type 0
+Callable m = MethodName (m .name)
+
+other-bytes : (k n : List ℕ) (b : Bool) → sameBytes k n ≡ b → sameBytes n k ≡ false → b ≡ false
+other-bytes k n true e h = let q = sameBytes-decides n k .1 (sym (sameBytes-decides k n .0 e)) in cc
+other-bytes k n false e h = refl
+
+-- names among which that key is not
+names-callable : (ns : List (List ℕ)) → among ns (codes "#name") ≡ false → All MethodName ns
+names-callable [] h = tt
+names-callable (n ∷ ns) h =
+    let p = or-parts (sameBytes n (codes "#name")) (among ns (codes "#name")) h in
+    (other-bytes (codes "#name") n (sameBytes (codes "#name") n) refl (p .0), names-callable ns (p .1))
+
+rows-callable : (A : Type 0) (C : List ℕ) (bs : List Builtin) (ns : List (List ℕ)) → All MethodName ns → All (Callable {A = A}) (rowsOf C bs ns)
+rows-callable A C [] ns h = tt
+rows-callable A C (b ∷ bs) [] h = tt
+rows-callable A C (b ∷ bs) (n ∷ ns) h =
+    cond-both (sameBytes (className (b .class)) C) _ _ (All Callable) (λ e. (h .0, rows-callable A C bs ns (h .1))) (λ e. rows-callable A C bs ns (h .1))
+
+module _ {A : Type 0} where
+  own-callable : (i : ℕ) (ms : List (Method A)) → All SpelledMethod ms → All Callable (own i ms)
+  own-callable i [] h = tt
+  own-callable i (m ∷ ms) h = (method-name (m .name) (h .0 .0 .0), own-callable (suc i) ms (h .1))
+
+  inherited-callable : (mine ms : List (Named A)) → All Callable ms → All Callable (inherited mine ms)
+  inherited-callable mine [] h = tt
+  inherited-callable mine (m ∷ ms) h =
+      cond-both (names mine (m .name)) _ _ (All Callable) (λ e. inherited-callable mine ms (h .1)) (λ e. (h .0, inherited-callable mine ms (h .1)))
+
+  -- no method that a class finds has the name of a key of ours
+  pub visible-callable : (P : Classes A) (C : List ℕ) → All SpelledClass P → All Callable (visible P C)
+  unfolding visible
+  visible-callable [] C h = rows-callable A C builtin.table builtin.names (names-callable builtin.names refl)
+  visible-callable (K ∷ P) C h =
+      let mine = own (addedMethods P) (K .methods) in
+      let older = visible P (K .parent) in
+      cond-both (sameBytes (K .name) C) _ _ (All Callable)
+      (λ e. all-append Callable mine (inherited mine older) (own-callable (addedMethods P) (K .methods) (h .0)) (inherited-callable mine older (visible-callable P (K .parent) (h .1))))
+      (λ e. visible-callable P C (h .1))
