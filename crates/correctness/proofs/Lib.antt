@@ -2,5 +2,6 @@ pub mod Relation
 pub mod Segments
 pub mod Following
 pub mod Fitted
-pub mod CodeLength
 pub mod Spelling
+pub mod CodeLength
+pub mod GlobalsUsed
