@@ -41,7 +41,8 @@ use Rattle.compiler.specs.Pieces.{Code, send, countTest, marks}
 use Rattle.compiler.specs.Body.{makeObject, make, create, testClass, compile, compiles, bodyCode, methodCode}
 use Rattle.compiler.specs.Builtins.{operationCode, operationFunctionCode}
 use Rattle.compiler.specs.Whole.{layMethods, layClasses, startCode, closeCode, mainCode, program}
-use Rattle.correctness.specs.CodeSize.{GlobalBelow, GlobalsBelow, classLimit}
+use Rattle.correctness.specs.Accepted.{mostClasses}
+use Rattle.correctness.specs.CodeSize.{GlobalBelow, GlobalsBelow}
 use Rattle.correctness.proofs.Fitted.{Within}
 
 place-of : (b : Bool) (i n : ℕ) → (b ≡ false → i < n) → cond b 0 (suc i) < suc n
@@ -201,5 +202,5 @@ module _ {A : Type 0} (P : Classes A) where
   )
 
   -- with at most 16 added classes the machine has as many
-  pub globals-few : length P ≤ classLimit → globals ≤ mostGlobals
+  pub globals-few : length P ≤ mostClasses → globals ≤ mostGlobals
   globals-few h = simp (length-reverse, length-map) (omega arith)

@@ -1,6 +1,17 @@
 pub mod Relation
 pub mod Segments
 pub mod Following
+pub mod Loaded
+pub mod Lookup
+pub mod Values
+pub mod Tabled
+pub mod Registers
+pub mod Judged
+pub mod Forms
+pub mod Returning
+pub mod Classed
+pub mod Fields
+pub mod Calls
 pub mod Fitted
 pub mod Spelling
 pub mod CodeLength

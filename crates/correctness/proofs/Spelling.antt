@@ -93,44 +93,44 @@ pub read-spelled : (κ : Kind) (text : List ℕ) (ps : List Placed) (t : BareTex
 read-spelled κ text ps t e a =
     formed-text-spelled t (rw (grammar.law κ .sound (map (λ p. p .token) ps) t a .1) (reads-formed (lexer.law .written text ps e)))
 
--- a name that no key of ours is
-abbrev pub Callable : {A : Type 0} → Named A → Type 0
-Callable m = MethodName (m .name)
+-- a method whose name is no key of ours
+abbrev pub MethodNamed : {A : Type 0} → Named A → Type 0
+MethodNamed m = MethodName (m .name)
 
 other-bytes : (k n : List ℕ) (b : Bool) → sameBytes k n ≡ b → sameBytes n k ≡ false → b ≡ false
 other-bytes k n true e h = let q = sameBytes-decides n k .1 (sym (sameBytes-decides k n .0 e)) in cc
 other-bytes k n false e h = refl
 
 -- names among which that key is not
-names-callable : (ns : List (List ℕ)) → among ns (codes "#name") ≡ false → All MethodName ns
-names-callable [] h = tt
-names-callable (n ∷ ns) h =
+names-named : (ns : List (List ℕ)) → among ns (codes "#name") ≡ false → All MethodName ns
+names-named [] h = tt
+names-named (n ∷ ns) h =
     let p = or-parts (sameBytes n (codes "#name")) (among ns (codes "#name")) h in
-    (other-bytes (codes "#name") n (sameBytes (codes "#name") n) refl (p .0), names-callable ns (p .1))
+    (other-bytes (codes "#name") n (sameBytes (codes "#name") n) refl (p .0), names-named ns (p .1))
 
-rows-callable : (A : Type 0) (C : List ℕ) (bs : List Builtin) (ns : List (List ℕ)) → All MethodName ns → All (Callable {A = A}) (rowsOf C bs ns)
-rows-callable A C [] ns h = tt
-rows-callable A C (b ∷ bs) [] h = tt
-rows-callable A C (b ∷ bs) (n ∷ ns) h =
-    cond-both (sameBytes (className (b .class)) C) _ _ (All Callable) (λ e. (h .0, rows-callable A C bs ns (h .1))) (λ e. rows-callable A C bs ns (h .1))
+rows-named : (A : Type 0) (C : List ℕ) (bs : List Builtin) (ns : List (List ℕ)) → All MethodName ns → All (MethodNamed {A = A}) (rowsOf C bs ns)
+rows-named A C [] ns h = tt
+rows-named A C (b ∷ bs) [] h = tt
+rows-named A C (b ∷ bs) (n ∷ ns) h =
+    cond-both (sameBytes (className (b .class)) C) _ _ (All MethodNamed) (λ e. (h .0, rows-named A C bs ns (h .1))) (λ e. rows-named A C bs ns (h .1))
 
 module _ {A : Type 0} where
-  own-callable : (i : ℕ) (ms : List (Method A)) → All SpelledMethod ms → All Callable (own i ms)
-  own-callable i [] h = tt
-  own-callable i (m ∷ ms) h = (method-name (m .name) (h .0 .0 .0), own-callable (suc i) ms (h .1))
+  own-named : (i : ℕ) (ms : List (Method A)) → All SpelledMethod ms → All MethodNamed (own i ms)
+  own-named i [] h = tt
+  own-named i (m ∷ ms) h = (method-name (m .name) (h .0 .0 .0), own-named (suc i) ms (h .1))
 
-  inherited-callable : (mine ms : List (Named A)) → All Callable ms → All Callable (inherited mine ms)
-  inherited-callable mine [] h = tt
-  inherited-callable mine (m ∷ ms) h =
-      cond-both (names mine (m .name)) _ _ (All Callable) (λ e. inherited-callable mine ms (h .1)) (λ e. (h .0, inherited-callable mine ms (h .1)))
+  inherited-named : (mine ms : List (Named A)) → All MethodNamed ms → All MethodNamed (inherited mine ms)
+  inherited-named mine [] h = tt
+  inherited-named mine (m ∷ ms) h =
+      cond-both (names mine (m .name)) _ _ (All MethodNamed) (λ e. inherited-named mine ms (h .1)) (λ e. (h .0, inherited-named mine ms (h .1)))
 
   -- no method that a class finds has the name of a key of ours
-  pub visible-callable : (P : Classes A) (C : List ℕ) → All SpelledClass P → All Callable (visible P C)
+  pub visible-named : (P : Classes A) (C : List ℕ) → All SpelledClass P → All MethodNamed (visible P C)
   unfolding visible
-  visible-callable [] C h = rows-callable A C builtin.table builtin.names (names-callable builtin.names refl)
-  visible-callable (K ∷ P) C h =
+  visible-named [] C h = rows-named A C builtin.table builtin.names (names-named builtin.names refl)
+  visible-named (K ∷ P) C h =
       let mine = own (addedMethods P) (K .methods) in
       let older = visible P (K .parent) in
-      cond-both (sameBytes (K .name) C) _ _ (All Callable)
-      (λ e. all-append Callable mine (inherited mine older) (own-callable (addedMethods P) (K .methods) (h .0)) (inherited-callable mine older (visible-callable P (K .parent) (h .1))))
-      (λ e. visible-callable P C (h .1))
+      cond-both (sameBytes (K .name) C) _ _ (All MethodNamed)
+      (λ e. all-append MethodNamed mine (inherited mine older) (own-named (addedMethods P) (K .methods) (h .0)) (inherited-named mine older (visible-named P (K .parent) (h .1))))
+      (λ e. visible-named P C (h .1))

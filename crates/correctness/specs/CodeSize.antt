@@ -39,7 +39,3 @@ GlobalBelow n (Instr.halt a) = Unit {0}
 -- every global of the program is below n
 abbrev pub GlobalsBelow : ℕ → Program → Type 0
 GlobalsBelow n C = All (All (GlobalBelow n)) C
-
--- how many classes may be added
-abbrev pub classLimit : ℕ
-classLimit = 16

@@ -5,6 +5,7 @@ use Prim.Native.Nat.{ℕ}
 use lib.Dec.{eqb}
 use lib.IntN.{ℤ, pos, negsuc}
 use Rattle.text.specs.Memory.{Memory, bytesOf, equalBytes}
+use Rattle.text.specs.Agree.{madeEnd}
 use Rattle.store.specs.declared.value.Value.{Value}
 use Rattle.store.specs.declared.value.Value.the-variants.{Int, Str, Ident, Loc}
 
@@ -19,6 +20,13 @@ meaning m (Int n) = Val.int n
 meaning m (Str s) = Val.string (bytesOf m s)
 meaning m (Ident i) = Val.identifier (i .0)
 meaning m (Loc l) = Val.location (l .0)
+
+-- where a value's bytes end among the strings made; 0 if it has none there
+abbrev pub endOf : Value → ℕ
+endOf (Int n) = 0
+endOf (Str s) = madeEnd s
+endOf (Ident i) = 0
+endOf (Loc l) = 0
 
 abbrev pub equalInt : ℤ → ℤ → Bool
 equalInt (pos m) (pos n) = eqb m n

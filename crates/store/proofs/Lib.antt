@@ -1,0 +1,5 @@
+pub mod Values
+pub mod Tables
+pub mod Rows
+pub mod Filing
+pub mod Listing
