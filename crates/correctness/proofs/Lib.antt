@@ -15,3 +15,7 @@ pub mod Fields
 pub mod Calls
 pub mod Methods
 pub mod Closing
+pub mod Fitted
+pub mod Spelling
+pub mod CodeLength
+pub mod GlobalsUsed
