@@ -3,6 +3,7 @@ pub mod Segments
 pub mod Following
 pub mod Values
 pub mod Tabled
+pub mod Heaps
 pub mod Registers
 pub mod Judged
 pub mod Forms
