@@ -4,6 +4,7 @@ pub mod Following
 pub mod Values
 pub mod Tabled
 pub mod Heaps
+pub mod Space
 pub mod Registers
 pub mod Judged
 pub mod Forms

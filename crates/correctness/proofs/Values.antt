@@ -1,8 +1,8 @@
 -- When two values are equal, what a table's key holds after a write, and what moving locations up changes. Assumes nothing.
-use mathlib.Core.Path.{_≡_, refl, sym, ap, subst, _∙_}
+use mathlib.Core.Path.{_≡_, refl, sym, ap, _∙_}
 use mathlib.Core.Bool.{Bool, true, false, cond}
-use mathlib.Core.List.{List, [], _∷_, _++_, map}
-use Prim.Native.Nat.{ℕ, zero, suc, _+_}
+use mathlib.Core.List.{List, [], _∷_}
+use Prim.Native.Nat.{ℕ, _+_}
 use native.Mathlib.Omega.{arith}
 use lib.Dec.{eqb}
 use Rattle.std.specs.Options.{isSome, mapped}
@@ -19,7 +19,7 @@ use Rattle.store.proofs.Values.{decides-val}
 use Rattle.rube.specs.Classes.{Classes, classCount}
 use Rattle.correctness.specs.Fitting.{FieldName, MethodName}
 use Rattle.compiler.specs.Layout.{classKey, nameKey, contentsKey}
-use Rattle.correctness.proofs.Relation.{shift, shiftPair, shiftTable}
+use Rattle.correctness.proofs.Relation.{shift, shiftTable}
 
 -- a value equals itself
 pub equal-same : (v : Val) → equalVal v v ≡ true
