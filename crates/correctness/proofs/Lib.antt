@@ -5,6 +5,8 @@ pub mod Loaded
 pub mod Lookup
 pub mod Values
 pub mod Tabled
+pub mod Heaps
+pub mod Space
 pub mod Registers
 pub mod Slots
 pub mod Judged
