@@ -2,3 +2,4 @@ pub mod Relation
 pub mod Segments
 pub mod Following
 pub mod Registers
+pub mod Laying
