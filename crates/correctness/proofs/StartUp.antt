@@ -1,0 +1,152 @@
+-- The start-up code of a run: class tables, nil and the top-level self, or the end for want of room. Assumes nothing.
+use mathlib.Core.Path.{_≡_, refl, sym, ap, subst, _∙_}
+use mathlib.Core.Logic.{_≢_, ⊎-elim}
+use mathlib.Core.Bool.{Bool, true, false, cond, _||_}
+use mathlib.Core.List.{List, [], _∷_, _++_, map}
+use Prim.Native.Nat.{ℕ, zero, suc, _+_, _*_, _<_, _≤_}
+use native.Mathlib.Omega.{arith}
+use lib.Chars.{codes}
+use lib.ListN.{length}
+use Rattle.std.specs.Options.{isSome}
+use Rattle.std.specs.shelf.Text.{sameBytes}
+use Rattle.std.specs.declared.option.Option.the-variants.{Some, None}
+use Rattle.std.proofs.shelf.Equals.{sameBytes-decides}
+use Rattle.std.proofs.shelf.Lists.{append-assoc, append-nil, map-append, map-push, length-append, length-push, length-map}
+use Rattle.std.proofs.shelf.Tests.{both-ways, or-right, lt-ltb, cases-eq, leb-true, le-leb}
+use Rattle.std.proofs.shelf.Ways.{same-from-decides}
+use Rattle.text.specs.Memory.{equalBytes}
+use Rattle.text.proofs.Meanings.{decides-bytes}
+use Rattle.store.specs.Val.{Val, equalVal}
+use Rattle.store.specs.Tables.{Table, Tables, look, put, pairs}
+use Rattle.store.proofs.Values.{decides-val}
+use Rattle.store.proofs.Tables.{look-put-same, look-put-other}
+use Rattle.machine.specs.Limits.{registersPerFrame, mostGlobals, Limits}
+use Rattle.machine.specs.Effects.{Effects, nothingYet}
+use Rattle.machine.specs.Instr.{Instr, Program}
+use Rattle.machine.specs.State.{Registers, write, passed, at, initial}
+use Rattle.machine.specs.Step.{holdsGlobal}
+use Rattle.machine.proofs.Judge.{Has}
+use Rattle.machine.proofs.Exec.{do-const, do-rdGlob, do-wrGlob}
+use Rattle.rube.specs.Classes.{Named, Classes, names, visible, classNames, classCount, known, visibleIn, pairCount}
+use Rattle.compiler.specs.Layout.{classKey, nameKey, nilGlobal, classGlobal, placeIn}
+use Rattle.compiler.specs.Whole.{layMethods, layClasses, layObject, startCode}
+use Rattle.correctness.proofs.Relation.{methodPair, classTable, classTables, Globals}
+use Rattle.correctness.proofs.Segments.{Seg, split, head, tail, none, last}
+use Rattle.correctness.proofs.Registers.{has-written, has-other, place-below}
+use Rattle.correctness.proofs.Laying.{Room, room-in-front, laying, pairs-append, pairs-push, Lays, step-then, slack, done, make-then, write-then, lay-on}
+use Rattle.correctness.proofs.Orderly.{DistinctNames, Orderly}
+
+string-key : (x y : List ℕ) → equalVal (Val.string x) (Val.string y) ≡ sameBytes x y
+unfolding equalVal
+string-key x y = same-from-decides (equalBytes x y) (sameBytes x y) (decides-bytes x y) (sameBytes-decides x y)
+
+-- a key is new that no pair has
+look-none : (k j v : Val) (t : Table) → look k t ≡ None → equalVal j k ≡ false → look k (t ++ (j, v) ∷ []) ≡ None
+unfolding look
+look-none k j v [] h n = rw n
+look-none k j v (p ∷ t) h n = by (equalVal (p .0) k) h (λ e. look-none k j v t e n) where
+  by : (b : Bool) → cond b (Some (p .1)) (look k t) ≡ None → (look k t ≡ None → look k (t ++ (j, v) ∷ []) ≡ None) → cond b (Some (p .1)) (look k (t ++ (j, v) ∷ [])) ≡ None
+  by true e f = let z : _≡_ {A = ℕ} 0 1 = cc in absurd (omega arith)
+  by false e f = f e
+
+length-put : (k v : Val) (t : Table) → length (put k v t) ≤ suc (length t)
+unfolding put
+length-put k v [] = omega arith
+length-put k v (p ∷ t) = by (equalVal (p .0) k) (length-put k v t) where
+  by : (b : Bool) → length (put k v t) ≤ suc (length t) → length (cond b ((p .0, v) ∷ t) (p ∷ put k v t)) ≤ suc (suc (length t))
+  by true h = omega arith
+  by false h = omega arith
+
+-- the globals hold the first n class tables
+pub record Holding (n : ℕ) (G : Table) : Type 0 where
+  pub count : length G ≤ n
+  pub each : (i : ℕ) → i < n → look (Val.identifier (suc i)) G ≡ Some (Val.location i)
+
+other-global : {i j : ℕ} → (i ≡ j → ⊥) → Val.identifier i ≡ Val.identifier j → ⊥
+other-global n e = n (cc)
+
+holding-more : {n n′ : ℕ} {G : Table} (g l : ℕ) → n′ ≡ suc n → g ≡ suc n → l ≡ n → Holding n G → Holding n′ (put (Val.identifier g) (Val.location l) G)
+holding-more {n} {G = G} g l d e f h =
+    record {
+      count = omega (arith, length-put (Val.identifier g) (Val.location l) G, h .count);
+      each = λ i b. ⊎-elim
+        (λ (q : i ≡ n). let s : suc i ≡ g = omega arith in let z : l ≡ i = omega arith in rw (s, ← z) (look-put-same (Val.identifier g) (Val.location l) G))
+        (λ (q : i ≡ n → ⊥). look-put-other (Val.identifier (suc i)) (Val.identifier g) (Val.location l) G (other-global (λ x. q (omega arith))) ∙ h .each i (omega (arith, q)))
+        (cases-eq i n)
+    }
+
+global-free : (g : ℕ) (G : Table) → length G < mostGlobals → holdsGlobal g G ≡ true
+global-free g G h = or-right (isSome (look (Val.identifier g) G)) _ (lt-ltb (length G) mostGlobals h)
+
+module _ {A : Type 0} where
+  -- none of these methods' names is a key of the table
+  abbrev pub Fresh : Table → List (Named A) → Type 0
+  Fresh t ms = (x : List ℕ) → names ms x ≡ true → look (Val.string x) t ≡ None
+
+  fresh-here : (t : Table) (m : Named A) (ms : List (Named A)) → Fresh t (m ∷ ms) → look (Val.string (m .name)) t ≡ None
+  fresh-here t m ms f = f (m .name) (rw (sameBytes-decides (m .name) (m .name) .1 refl))
+
+  other-name : (ms : List (Named A)) (x y : List ℕ) → names ms x ≡ false → names ms y ≡ true → sameBytes x y ≡ false
+  other-name ms x y n h = by (sameBytes x y) refl where
+    by : (b : Bool) → sameBytes x y ≡ b → b ≡ false
+    by true e = absurd (both-ways (names ms y) (subst (λ (z : List ℕ). names ms z ≡ false) (sameBytes-decides x y .0 e) n) h)
+    by false e = refl
+
+  fresh-more : (t : Table) (m : Named A) (ms : List (Named A)) (v : Val) → names ms (m .name) ≡ false → Fresh t (m ∷ ms) → Fresh (t ++ (Val.string (m .name), v) ∷ []) ms
+  fresh-more t m ms v n f x h =
+      look-none (Val.string x) (Val.string (m .name)) v t (f x (or-right (sameBytes (m .name) x) (names ms x) h))
+      (string-key (m .name) x ∙ other-name ms (m .name) x n h)
+
+  fresh-first : (ms : List (Named A)) (v : Val) → names ms (codes "#name") ≡ false → Fresh ((nameKey, v) ∷ []) ms
+  unfolding look
+  fresh-first ms v n x h = look-none (Val.string x) nameKey v [] refl (string-key (codes "#name") x ∙ other-name ms (codes "#name") x n h)
+
+module _ {A : Type 0} (P : Classes A) {C : Program} {L : Limits} {o : Effects} where
+  -- a pair for each method
+  lay-methods : (ms : List (Named A)) {p q : ℕ} {G : Table} {R : Registers} (S : Tables) (t : Table) {T : Tables} → DistinctNames ms → Fresh t ms → Seg C 0 p (layMethods P ms) q → Has R 2 (Val.location (length S)) → Room L (S ++ t ∷ []) → S ++ (t ++ map (methodPair P) ms) ∷ [] ≡ T → Lays C L (at 0 p R [] (laying (S ++ t ∷ []) G o)) (3 * length ms) q o T (λ G′ R′. G′ ≡ G)
+  lay-methods [] S t d f g h r e = done (none g) (rw append-nil at e) r refl
+  lay-methods (m ∷ ms) {R = R} S t d f g h r e =
+      let k : Val = Val.string (m .name) in
+      let v : Val = methodPair P m .1 in
+      let here = has-other (write R 3 k) 4 2 v (λ e. omega arith) (has-other R 3 2 k (λ e. omega arith) h) in
+      slack (3 * length (m ∷ ms)) (omega arith)
+      (step-then (do-const (head g) (omega arith))
+      (step-then (do-const (head (tail g)) (omega arith))
+      (write-then S t (head (tail (tail g))) here (has-other (write R 3 k) 4 3 v (λ e. omega arith) (has-written R 3 k)) (has-written (write R 3 k) 4 v)
+        (fresh-here t m ms f) r
+        (omega (arith, pairs-push S t, pairs-push S (t ++ map (methodPair P) (m ∷ ms)), length-append t (map (methodPair P) (m ∷ ms)), ap pairs e))
+        (λ r′. lay-methods ms S (t ++ methodPair P m ∷ []) (d .1) (fresh-more t m ms v (d .0) f) (tail (tail (tail g))) here r′
+          (ap (λ (u : Table). S ++ u ∷ []) (append-assoc t (methodPair P m ∷ []) (map (methodPair P) ms)) ∙ e)))))
+
+  -- the class tables of N, each held by its global
+  lay-classes : (N : List (List ℕ)) → length N < mostGlobals → ((Bs : List (List ℕ)) (D : List ℕ) (Cs : List (List ℕ)) → Bs ++ D ∷ Cs ≡ N → placeIn (classNames P) D ≡ length Bs) → ((D : List ℕ) → DistinctNames (visible P D)) → ((D : List ℕ) → names (visible P D) (codes "#name") ≡ false)
+      → (Cs : List (List ℕ)) {p q : ℕ} {G : Table} {R : Registers} (Bs : List (List ℕ)) → Bs ++ Cs ≡ N → Seg C 0 p (layClasses P Cs) q → Holding (length Bs) G → Room L (map (classTable P) Bs) → Lays C L (at 0 p R [] (laying (map (classTable P) Bs) G o)) (5 * length Cs + 3 * visibleIn P Cs) q o (map (classTable P) N) (λ G′ R′. Holding (length N) G′)
+  unfolding look pairs
+  lay-classes N few placed differ keyless [] {G = G} Bs e g h r =
+      let all : Bs ≡ N = sym (append-nil Bs) ∙ e in
+      done (none g) (ap (map (classTable P)) all) r (subst (λ (Ds : List (List ℕ)). Holding (length Ds) G) all h)
+  lay-classes N few placed differ keyless (D ∷ Cs) {G = G} {R = R} Bs e g h r =
+      let S = map (classTable P) Bs in
+      let U = map (classTable P) Cs in
+      let l : Val = Val.location (length S) in
+      let R₂ = write R 2 l in
+      let here = has-written R 2 l in
+      let here′ = has-other (write R₂ 3 nameKey) 4 2 (Val.string D) (λ e. omega arith) (has-other R₂ 3 2 nameKey (λ e. omega arith) here) in
+      let whole : map (classTable P) N ≡ S ++ classTable P D ∷ U = ap (map (classTable P)) (sym e) ∙ map-append (classTable P) Bs (D ∷ Cs) in
+      let part : S ++ classTable P D ∷ [] ≡ map (classTable P) (Bs ++ D ∷ []) = sym (map-push (classTable P) Bs D) in
+      let next : (Bs ++ D ∷ []) ++ Cs ≡ N = append-assoc Bs (D ∷ []) Cs ∙ e in
+      let s = split (layMethods P (visible P D)) (layClasses P Cs) (tail (tail (tail (tail (tail g))))) in
+      slack (5 * length (D ∷ Cs) + 3 * visibleIn P (D ∷ Cs)) (omega arith)
+      (make-then (head g) (omega arith) r (omega (arith, ap length whole, length-append S (classTable P D ∷ U)))
+      (λ r₁. step-then (do-wrGlob (head (tail g)) here (global-free (classGlobal P D) G (omega (arith, h .count, length-append Bs (D ∷ Cs), ap length e))))
+      (step-then (do-const (head (tail (tail g))) (omega arith))
+      (step-then (do-const (head (tail (tail (tail g)))) (omega arith))
+      (write-then S [] (head (tail (tail (tail (tail g))))) here′ (has-other (write R₂ 3 nameKey) 4 3 (Val.string D) (λ e. omega arith) (has-written R₂ 3 nameKey)) (has-written (write R₂ 3 nameKey) 4 (Val.string D))
+        refl r₁ (omega (arith, pairs-push S [], ap pairs whole, pairs-append S (classTable P D ∷ U)))
+        (λ r₂. lay-on
+          (lay-methods (visible P D) S ((nameKey, Val.string D) ∷ []) (differ D) (fresh-first (visible P D) (Val.string D) (keyless D)) (s .left) here′ r₂ part)
+          (λ a. room-in-front (map (classTable P) (Bs ++ D ∷ [])) U (subst (Room L) (ap (map (classTable P)) (sym next) ∙ map-append (classTable P) (Bs ++ D ∷ []) Cs) a))
+          (λ G′ R′ r₃ q. lay-classes N few placed differ keyless Cs (Bs ++ D ∷ []) next (s .right)
+            (subst (Holding (length (Bs ++ D ∷ []))) (sym q)
+              (holding-more (classGlobal P D) (length S) (omega (arith, length-push Bs D)) (ap suc (placed Bs D Cs e)) (length-map Bs (classTable P)) h))
+            r₃)))))))
