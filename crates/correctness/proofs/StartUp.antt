@@ -28,9 +28,10 @@ use Rattle.machine.specs.Step.{holdsGlobal}
 use Rattle.machine.proofs.Judge.{Has}
 use Rattle.machine.proofs.Exec.{do-const, do-rdGlob, do-wrGlob}
 use Rattle.rube.specs.Classes.{Named, Classes, names, visible, classNames, classCount, known, visibleIn, pairCount}
+use Rattle.rube.specs.Heap.{Setting, firstHeap, topSelf, fits, heapPairs}
 use Rattle.compiler.specs.Layout.{classKey, nameKey, nilGlobal, classGlobal, placeIn}
 use Rattle.compiler.specs.Whole.{layMethods, layClasses, layObject, startCode}
-use Rattle.correctness.proofs.Relation.{methodPair, classTable, classTables, Globals}
+use Rattle.correctness.proofs.Relation.{methodPair, classTable, classTables, tablesOf, Globals}
 use Rattle.correctness.proofs.Segments.{Seg, split, head, tail, none, last}
 use Rattle.correctness.proofs.Registers.{has-written, has-other, place-below}
 use Rattle.correctness.proofs.Laying.{Room, room-in-front, laying, pairs-append, pairs-push, Lays, step-then, slack, done, make-then, write-then, lay-on}
@@ -101,6 +102,17 @@ module _ {A : Type 0} where
   unfolding look
   fresh-first ms v n x h = look-none (Val.string x) nameKey v [] refl (string-key (codes "#name") x ∙ other-name ms (codes "#name") x n h)
 
+module _ {A : Type 0} (P : Classes A) where
+  class-held : {G : Table} (D : List ℕ) → known P D ≡ true → Holding (classCount P) G → look (Val.identifier (classGlobal P D)) G ≡ Some (Val.location (placeIn (classNames P) D))
+  class-held D k h = h .each (placeIn (classNames P) D) (place-below (classNames P) D k)
+
+  nil-held : {G : Table} (l : ℕ) → l ≡ classCount P → Holding (classCount P) G → Globals P (put (Val.identifier nilGlobal) (Val.location l) G)
+  nil-held {G} l e h =
+      record {
+        nils = look-put-same (Val.identifier nilGlobal) (Val.location l) G ∙ ap (λ (n : ℕ). Some (Val.location n)) (omega arith);
+        classes = λ D k. look-put-other (Val.identifier (classGlobal P D)) (Val.identifier nilGlobal) (Val.location l) G (other-global (λ z. omega arith)) ∙ class-held D k h
+      }
+
 module _ {A : Type 0} (P : Classes A) {C : Program} {L : Limits} {o : Effects} where
   -- a pair for each method
   lay-methods : (ms : List (Named A)) {p q : ℕ} {G : Table} {R : Registers} (S : Tables) (t : Table) {T : Tables} → DistinctNames ms → Fresh t ms → Seg C 0 p (layMethods P ms) q → Has R 2 (Val.location (length S)) → Room L (S ++ t ∷ []) → S ++ (t ++ map (methodPair P) ms) ∷ [] ≡ T → Lays C L (at 0 p R [] (laying (S ++ t ∷ []) G o)) (3 * length ms) q o T (λ G′ R′. G′ ≡ G)
@@ -150,3 +162,45 @@ module _ {A : Type 0} (P : Classes A) {C : Program} {L : Limits} {o : Effects} w
             (subst (Holding (length (Bs ++ D ∷ []))) (sym q)
               (holding-more (classGlobal P D) (length S) (omega (arith, length-push Bs D)) (ap suc (placed Bs D Cs e)) (length-map Bs (classTable P)) h))
             r₃)))))))
+
+  -- an object of the class D, into register a
+  lay-object : {p q : ℕ} {G : Table} {R : Registers} (a : ℕ) (D : List ℕ) (S : Tables) {T : Tables} → a < 3 → Seg C 0 p (layObject P a D) q → look (Val.identifier (classGlobal P D)) G ≡ Some (Val.location (placeIn (classNames P) D)) → Room L S → S ++ ((classKey, Val.location (placeIn (classNames P) D)) ∷ []) ∷ [] ≡ T
+      → Lays C L (at 0 p R [] (laying S G o)) 4 q o T (λ G′ R′. (G′ ≡ G) × Has R′ a (Val.location (length S)))
+  unfolding look
+  lay-object {R = R} a D S b g held r e =
+      let l : Val = Val.location (length S) in
+      let c : Val = Val.location (placeIn (classNames P) D) in
+      let R₁ = write R a l in
+      let here = has-other (write R₁ 3 classKey) 4 a c (λ e. omega arith) (has-other R₁ 3 a classKey (λ e. omega arith) (has-written R a l)) in
+      make-then (head g) (omega arith) r (omega (arith, ap length e, length-push S ((classKey, c) ∷ [])))
+      (λ r₁. step-then (do-const (head (tail g)) (omega arith))
+      (step-then (do-rdGlob (head (tail (tail g))) (omega arith) held)
+      (write-then S [] (head (tail (tail (tail g)))) here (has-other (write R₁ 3 classKey) 4 3 c (λ e. omega arith) (has-written R₁ 3 classKey)) (has-written (write R₁ 3 classKey) 4 c)
+        refl r₁ (omega (arith, pairs-push S [], ap pairs e, pairs-push S ((classKey, c) ∷ [])))
+        (λ r₂. done (last (tail (tail (tail g)))) e r₂ (refl, here)))))
+
+  -- nil, and the top-level self
+  lay-firsts : {p q : ℕ} {G : Table} {R : Registers} (S : Tables) {T : Tables} → classCount P < mostGlobals → Seg C 0 p (layObject P 2 (codes "Bot") ++ (Instr.wrGlob nilGlobal 2 ∷ layObject P 1 (codes "Object"))) q → Holding (classCount P) G → length S ≡ classCount P → Room L S
+      → S ++ ((classKey, Val.location (placeIn (classNames P) (codes "Bot"))) ∷ []) ∷ ((classKey, Val.location (placeIn (classNames P) (codes "Object"))) ∷ []) ∷ [] ≡ T
+      → Lays C L (at 0 p R [] (laying S G o)) 9 q o T (λ G′ R′. Globals P G′ × Has R′ 1 (Val.location (classCount P + 1)))
+  lay-firsts {G = G} S few g h n r e = 
+      let bot : Table = (classKey, Val.location (placeIn (classNames P) (codes "Bot"))) ∷ [] in
+      let object : Table = (classKey, Val.location (placeIn (classNames P) (codes "Object"))) ∷ [] in
+      let s = split (layObject P 2 (codes "Bot")) (Instr.wrGlob nilGlobal 2 ∷ layObject P 1 (codes "Object")) g in
+      let joined = append-assoc S (bot ∷ []) (object ∷ []) ∙ e in
+      lay-on (lay-object 2 (codes "Bot") S (omega arith) (s .left) (class-held P (codes "Bot") refl h) r refl)
+      (λ a. room-in-front (S ++ bot ∷ []) (object ∷ []) (subst (Room L) (sym joined) a))
+      (λ G₁ R₁ r₁ φ.
+      let globals = nil-held P (length S) n (subst (Holding (classCount P)) (sym (φ .0)) h) in
+      step-then (do-wrGlob (head (s .right)) (φ .1) (global-free nilGlobal G₁ (omega (arith, h .count, ap length (φ .0)))))
+      (lay-on (lay-object 1 (codes "Object") (S ++ bot ∷ []) (omega arith) (tail (s .right)) (globals .classes (codes "Object") refl) r₁ joined) (λ a. a)
+      (λ G₂ R₂ r₂ ψ. done {c = 0} refl refl r₂ (subst (Globals P) (sym (ψ .0)) globals, subst (λ (l : ℕ). Has R₂ 1 (Val.location l)) (omega (arith, length-push S bot)) (ψ .1)))))
+
+  -- the whole start-up code
+  lay-all : {q : ℕ} → Orderly P → Seg C 0 0 (startCode P) q → Lays C L (at 0 0 (passed []) [] (laying [] [] o)) (5 * classCount P + 3 * pairCount P + 9) q o (tablesOf P firstHeap) (λ G R. Globals P G × Has R 1 (Val.location (classCount P + 1)))
+  unfolding classTables tablesOf pairs
+  lay-all w g =
+      let s = split (layClasses P (classNames P)) (layObject P 2 (codes "Bot") ++ (Instr.wrGlob nilGlobal 2 ∷ layObject P 1 (codes "Object"))) g in
+      lay-on (lay-classes (classNames P) (w .few) (w .placed) (w .differ) (w .keyless) (classNames P) [] refl (s .left) (record { count = omega arith; each = λ i l. absurd (omega arith) }) (record { tables-fit = omega arith; pairs-fit = omega arith }))
+      (room-in-front (map (classTable P) (classNames P)) _)
+      (λ G R r h. lay-firsts (map (classTable P) (classNames P)) (w .few) (s .right) h (length-map (classNames P) (classTable P)) r refl)
