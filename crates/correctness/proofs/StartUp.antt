@@ -6,13 +6,15 @@ use mathlib.Core.List.{List, [], _∷_, _++_, map}
 use Prim.Native.Nat.{ℕ, zero, suc, _+_, _*_, _<_, _≤_}
 use native.Mathlib.Omega.{arith}
 use lib.Chars.{codes}
+use lib.Dec.{leb}
 use lib.ListN.{length}
 use Rattle.std.specs.Options.{isSome}
+use Rattle.std.specs.Orderings.{Decides}
 use Rattle.std.specs.shelf.Text.{sameBytes}
 use Rattle.std.specs.declared.option.Option.the-variants.{Some, None}
 use Rattle.std.proofs.shelf.Equals.{sameBytes-decides}
 use Rattle.std.proofs.shelf.Lists.{append-assoc, append-nil, map-append, map-push, length-append, length-push, length-map}
-use Rattle.std.proofs.shelf.Tests.{both-ways, or-right, lt-ltb, cases-eq, leb-true, le-leb}
+use Rattle.std.proofs.shelf.Tests.{both-ways, or-right, lt-ltb, cases-eq, leb-true, le-leb, and-parts, and-from}
 use Rattle.std.proofs.shelf.Ways.{same-from-decides}
 use Rattle.text.specs.Memory.{equalBytes}
 use Rattle.text.proofs.Meanings.{decides-bytes}
@@ -20,21 +22,23 @@ use Rattle.store.specs.Val.{Val, equalVal}
 use Rattle.store.specs.Tables.{Table, Tables, look, put, pairs}
 use Rattle.store.proofs.Values.{decides-val}
 use Rattle.store.proofs.Tables.{look-put-same, look-put-other}
+use Rattle.machine.specs.declared.ending.Ending.the-variants.{NoTableSpace}
 use Rattle.machine.specs.Limits.{registersPerFrame, mostGlobals, Limits}
 use Rattle.machine.specs.Effects.{Effects, nothingYet}
 use Rattle.machine.specs.Instr.{Instr, Program}
-use Rattle.machine.specs.State.{Registers, write, passed, at, initial}
+use Rattle.machine.specs.State.{Registers, write, passed, at, goes, ends, initial}
 use Rattle.machine.specs.Step.{holdsGlobal}
-use Rattle.machine.proofs.Judge.{Has}
+use Rattle.machine.proofs.Judge.{Has, Run}
 use Rattle.machine.proofs.Exec.{do-const, do-rdGlob, do-wrGlob}
 use Rattle.rube.specs.Classes.{Named, Classes, names, visible, classNames, classCount, known, visibleIn, pairCount}
 use Rattle.rube.specs.Heap.{Setting, firstHeap, topSelf, fits, heapPairs}
+use Rattle.rube.specs.Meaning.{first}
 use Rattle.compiler.specs.Layout.{classKey, nameKey, nilGlobal, classGlobal, placeIn}
 use Rattle.compiler.specs.Whole.{layMethods, layClasses, layObject, startCode}
-use Rattle.correctness.proofs.Relation.{methodPair, classTable, classTables, tablesOf, Globals}
+use Rattle.correctness.proofs.Relation.{shift, methodPair, classTable, classTables, tablesOf, Globals, world}
 use Rattle.correctness.proofs.Segments.{Seg, split, head, tail, none, last}
 use Rattle.correctness.proofs.Registers.{has-written, has-other, place-below}
-use Rattle.correctness.proofs.Laying.{Room, room-in-front, laying, pairs-append, pairs-push, Lays, step-then, slack, done, make-then, write-then, lay-on}
+use Rattle.correctness.proofs.Laying.{Room, room-in-front, laying, pairs-append, pairs-push, Lays, laid, full, step-then, slack, done, make-then, write-then, lay-on}
 use Rattle.correctness.proofs.Orderly.{DistinctNames, Orderly}
 
 string-key : (x y : List ℕ) → equalVal (Val.string x) (Val.string y) ≡ sameBytes x y
@@ -204,3 +208,65 @@ module _ {A : Type 0} (P : Classes A) {C : Program} {L : Limits} {o : Effects} w
       lay-on (lay-classes (classNames P) (w .few) (w .placed) (w .differ) (w .keyless) (classNames P) [] refl (s .left) (record { count = omega arith; each = λ i l. absurd (omega arith) }) (record { tables-fit = omega arith; pairs-fit = omega arith }))
       (room-in-front (map (classTable P) (classNames P)) _)
       (λ G R r h. lay-firsts (map (classTable P) (classNames P)) (w .few) (s .right) h (length-map (classNames P) (classTable P)) r refl)
+
+module _ {A : Type 0} (P : Classes A) where
+  length-first : length (tablesOf P firstHeap) ≡ classCount P + 2
+  unfolding classTables tablesOf
+  length-first = length-append (map (classTable P) (classNames P)) _ ∙ ap (λ (n : ℕ). n + 2) (length-map (classNames P) (classTable P))
+
+  pairs-classes : (Cs : List (List ℕ)) → pairs (map (classTable P) Cs) ≡ length Cs + visibleIn P Cs
+  unfolding pairs
+  pairs-classes [] = refl
+  pairs-classes (D ∷ Cs) = omega (arith, pairs-classes Cs, length-map (visible P D) (methodPair P))
+
+  pairs-first : pairs (tablesOf P firstHeap) ≡ classCount P + pairCount P + 2
+  unfolding classTables tablesOf pairs
+  pairs-first = pairs-append (map (classTable P) (classNames P)) _ ∙ ap (λ (n : ℕ). n + 2) (pairs-classes (classNames P))
+
+  -- the meaning begins where the tables find room
+  fits-first : (L : Limits) → Decides (fits (record { classes = P; limits = L }) firstHeap 0 0) (Room L (tablesOf P firstHeap))
+  unfolding fits heapPairs
+  fits-first L = (
+    (λ e.
+      let h = and-parts (leb (classCount P + 2 + 0) (L .tables)) (leb (classCount P + pairCount P + 2 + 0) (L .pairs)) e in
+      record {
+        tables-fit = omega (arith, length-first, leb-true _ _ (h .0));
+        pairs-fit = omega (arith, pairs-first, leb-true _ _ (h .1))
+      }),
+    (λ r. and-from _ _ (le-leb (classCount P + 2 + 0) (L .tables) (omega (arith, length-first, r .tables-fit))) (le-leb (classCount P + pairCount P + 2 + 0) (L .pairs) (omega (arith, pairs-first, r .pairs-fit)))),
+  )
+
+  -- how many steps the start-up code takes
+  abbrev pub startingSteps : ℕ
+  startingSteps = 5 * classCount P + 3 * pairCount P + 9
+
+  -- the run has come to the place where the meaning begins
+  pub record Started (C : Program) (L : Limits) (left q : ℕ) : Type 0 where
+    pub globals : Table
+    pub registers : Registers
+    pub steps : ℕ
+    pub globals-hold : Globals P globals
+    pub self-in : Has registers 1 (shift P topSelf)
+    pub runs : Run C L steps (initial left) (goes (at 0 q registers [] (world P globals (first left))))
+    pub soon : steps ≤ startingSteps
+
+  -- the run has ended for want of room
+  pub record Unstarted (C : Program) (L : Limits) (left : ℕ) : Type 0 where
+    pub steps : ℕ
+    pub runs : Run C L steps (initial left) (ends NoTableSpace (nothingYet left))
+    pub soon : steps ≤ startingSteps
+
+module _ {A : Type 0} (P : Classes A) {C : Program} {L : Limits} {q : ℕ} (left : ℕ) (w : Orderly P) (g : Seg C 0 0 (startCode P) q) where
+  -- where the first objects fit, the run comes to where the meaning begins
+  pub starts-up : fits (record { classes = P; limits = L }) firstHeap 0 0 ≡ true → Started P C L left q
+  starts-up e = by (lay-all P w g) where
+    by : Lays C L (initial left) (startingSteps P) q (nothingYet left) (tablesOf P firstHeap) (λ G R. Globals P G × Has R 1 (Val.location (classCount P + 1))) → Started P C L left q
+    by (laid j G R h b r φ) = record { globals = G; registers = R; steps = j; globals-hold = φ .0; self-in = φ .1; runs = h; soon = b }
+    by (full j h b n) = absurd (n (fits-first P L .0 e))
+
+  -- where they do not, it ends as the meaning does
+  pub fails-to-start : fits (record { classes = P; limits = L }) firstHeap 0 0 ≡ false → Unstarted P C L left
+  fails-to-start e = by (lay-all P w g) where
+    by : Lays C L (initial left) (startingSteps P) q (nothingYet left) (tablesOf P firstHeap) (λ G R. Globals P G × Has R 1 (Val.location (classCount P + 1))) → Unstarted P C L left
+    by (laid j G R h b r φ) = absurd (both-ways _ e (fits-first P L .1 r))
+    by (full j h b n) = record { steps = j; runs = h; soon = b }
