@@ -1,7 +1,14 @@
 pub mod Relation
 pub mod Segments
 pub mod Following
+pub mod Values
+pub mod Tabled
 pub mod Registers
 pub mod Laying
 pub mod Orderly
 pub mod StartUp
+pub mod Judged
+pub mod Forms
+pub mod Returning
+pub mod Classed
+pub mod Fields
