@@ -4,11 +4,13 @@ pub mod Following
 pub mod Values
 pub mod Tabled
 pub mod Registers
-pub mod Laying
-pub mod Orderly
-pub mod StartUp
 pub mod Judged
 pub mod Forms
 pub mod Returning
 pub mod Classed
 pub mod Fields
+pub mod Loaded
+pub mod Lookup
+pub mod Laying
+pub mod Orderly
+pub mod StartUp
