@@ -30,20 +30,19 @@ use Rattle.machine.specs.State.{Registers, write, passed, at, goes, ends, initi
 use Rattle.machine.specs.Step.{holdsGlobal}
 use Rattle.machine.proofs.Judge.{Has, Run}
 use Rattle.machine.proofs.Exec.{do-const, do-rdGlob, do-wrGlob}
-use Rattle.rube.specs.Classes.{Named, Classes, names, visible, classNames, classCount, known, visibleIn, pairCount}
-use Rattle.rube.specs.Heap.{Setting, firstHeap, topSelf, fits, heapPairs}
+use Rattle.rube.specs.Classes.{Named, Classes, among, visible, classNames, classCount, known, visibleIn, pairCount}
+use Rattle.rube.specs.Heap.{Heap, firstHeap, topSelf, fits, heapPairs}
 use Rattle.rube.specs.Meaning.{first}
 use Rattle.compiler.specs.Layout.{classKey, nameKey, nilGlobal, classGlobal, placeIn}
 use Rattle.compiler.specs.Whole.{layMethods, layClasses, layObject, startCode}
 use Rattle.correctness.proofs.Relation.{shift, methodPair, classTable, classTables, tablesOf, Globals, world}
 use Rattle.correctness.proofs.Segments.{Seg, split, head, tail, none, last}
 use Rattle.correctness.proofs.Registers.{has-written, has-other, place-below}
+use Rattle.correctness.proofs.Values.{string-key}
+use Rattle.correctness.proofs.Tabled.{length-tables, pairs-tables}
 use Rattle.correctness.proofs.Laying.{Room, room-in-front, laying, pairs-append, pairs-push, Lays, laid, full, step-then, slack, done, make-then, write-then, lay-on}
-use Rattle.correctness.proofs.Orderly.{DistinctNames, Orderly}
-
-string-key : (x y : List ℕ) → equalVal (Val.string x) (Val.string y) ≡ sameBytes x y
-unfolding equalVal
-string-key x y = same-from-decides (equalBytes x y) (sameBytes x y) (decides-bytes x y) (sameBytes-decides x y)
+use Rattle.correctness.specs.Accepted.{Distinct}
+use Rattle.correctness.proofs.Orderly.{namesIn, Orderly, unlike-among}
 
 -- a key is new that no pair has
 look-none : (k j v : Val) (t : Table) → look k t ≡ None → equalVal j k ≡ false → look k (t ++ (j, v) ∷ []) ≡ None
@@ -75,9 +74,9 @@ holding-more {n} {G = G} g l d e f h =
     record {
       count = omega (arith, length-put (Val.identifier g) (Val.location l) G, h .count);
       each = λ i b. ⊎-elim
-        (λ (q : i ≡ n). let s : suc i ≡ g = omega arith in let z : l ≡ i = omega arith in rw (s, ← z) (look-put-same (Val.identifier g) (Val.location l) G))
-        (λ (q : i ≡ n → ⊥). look-put-other (Val.identifier (suc i)) (Val.identifier g) (Val.location l) G (other-global (λ x. q (omega arith))) ∙ h .each i (omega (arith, q)))
-        (cases-eq i n)
+          (λ (q : i ≡ n). let s : suc i ≡ g = omega arith in let z : l ≡ i = omega arith in rw (s, ← z) (look-put-same (Val.identifier g) (Val.location l) G))
+          (λ (q : i ≡ n → ⊥). look-put-other (Val.identifier (suc i)) (Val.identifier g) (Val.location l) G (other-global (λ x. q (omega arith))) ∙ h .each i (omega (arith, q)))
+          (cases-eq i n);
     }
 
 global-free : (g : ℕ) (G : Table) → length G < mostGlobals → holdsGlobal g G ≡ true
@@ -86,25 +85,19 @@ global-free g G h = or-right (isSome (look (Val.identifier g) G)) _ (lt-ltb (len
 module _ {A : Type 0} where
   -- none of these methods' names is a key of the table
   abbrev pub Fresh : Table → List (Named A) → Type 0
-  Fresh t ms = (x : List ℕ) → names ms x ≡ true → look (Val.string x) t ≡ None
+  Fresh t ms = (x : List ℕ) → among (namesIn ms) x ≡ true → look (Val.string x) t ≡ None
 
   fresh-here : (t : Table) (m : Named A) (ms : List (Named A)) → Fresh t (m ∷ ms) → look (Val.string (m .name)) t ≡ None
   fresh-here t m ms f = f (m .name) (rw (sameBytes-decides (m .name) (m .name) .1 refl))
 
-  other-name : (ms : List (Named A)) (x y : List ℕ) → names ms x ≡ false → names ms y ≡ true → sameBytes x y ≡ false
-  other-name ms x y n h = by (sameBytes x y) refl where
-    by : (b : Bool) → sameBytes x y ≡ b → b ≡ false
-    by true e = absurd (both-ways (names ms y) (subst (λ (z : List ℕ). names ms z ≡ false) (sameBytes-decides x y .0 e) n) h)
-    by false e = refl
-
-  fresh-more : (t : Table) (m : Named A) (ms : List (Named A)) (v : Val) → names ms (m .name) ≡ false → Fresh t (m ∷ ms) → Fresh (t ++ (Val.string (m .name), v) ∷ []) ms
+  fresh-more : (t : Table) (m : Named A) (ms : List (Named A)) (v : Val) → among (namesIn ms) (m .name) ≡ false → Fresh t (m ∷ ms) → Fresh (t ++ (Val.string (m .name), v) ∷ []) ms
   fresh-more t m ms v n f x h =
-      look-none (Val.string x) (Val.string (m .name)) v t (f x (or-right (sameBytes (m .name) x) (names ms x) h))
-      (string-key (m .name) x ∙ other-name ms (m .name) x n h)
+      look-none (Val.string x) (Val.string (m .name)) v t (f x (or-right (sameBytes (m .name) x) (among (namesIn ms) x) h))
+      (string-key (m .name) x ∙ unlike-among (namesIn ms) (m .name) x n h)
 
-  fresh-first : (ms : List (Named A)) (v : Val) → names ms (codes "#name") ≡ false → Fresh ((nameKey, v) ∷ []) ms
+  fresh-first : (ms : List (Named A)) (v : Val) → among (namesIn ms) (codes "#name") ≡ false → Fresh ((nameKey, v) ∷ []) ms
   unfolding look
-  fresh-first ms v n x h = look-none (Val.string x) nameKey v [] refl (string-key (codes "#name") x ∙ other-name ms (codes "#name") x n h)
+  fresh-first ms v n x h = look-none (Val.string x) nameKey v [] refl (string-key (codes "#name") x ∙ unlike-among (namesIn ms) (codes "#name") x n h)
 
 module _ {A : Type 0} (P : Classes A) where
   class-held : {G : Table} (D : List ℕ) → known P D ≡ true → Holding (classCount P) G → look (Val.identifier (classGlobal P D)) G ≡ Some (Val.location (placeIn (classNames P) D))
@@ -114,12 +107,12 @@ module _ {A : Type 0} (P : Classes A) where
   nil-held {G} l e h =
       record {
         nils = look-put-same (Val.identifier nilGlobal) (Val.location l) G ∙ ap (λ (n : ℕ). Some (Val.location n)) (omega arith);
-        classes = λ D k. look-put-other (Val.identifier (classGlobal P D)) (Val.identifier nilGlobal) (Val.location l) G (other-global (λ z. omega arith)) ∙ class-held D k h
+        classes = λ D k. look-put-other (Val.identifier (classGlobal P D)) (Val.identifier nilGlobal) (Val.location l) G (other-global (λ z. omega arith)) ∙ class-held D k h;
       }
 
 module _ {A : Type 0} (P : Classes A) {C : Program} {L : Limits} {o : Effects} where
   -- a pair for each method
-  lay-methods : (ms : List (Named A)) {p q : ℕ} {G : Table} {R : Registers} (S : Tables) (t : Table) {T : Tables} → DistinctNames ms → Fresh t ms → Seg C 0 p (layMethods P ms) q → Has R 2 (Val.location (length S)) → Room L (S ++ t ∷ []) → S ++ (t ++ map (methodPair P) ms) ∷ [] ≡ T → Lays C L (at 0 p R [] (laying (S ++ t ∷ []) G o)) (3 * length ms) q o T (λ G′ R′. G′ ≡ G)
+  lay-methods : (ms : List (Named A)) {p q : ℕ} {G : Table} {R : Registers} (S : Tables) (t : Table) {T : Tables} → Distinct (namesIn ms) → Fresh t ms → Seg C 0 p (layMethods P ms) q → Has R 2 (Val.location (length S)) → Room L (S ++ t ∷ []) → S ++ (t ++ map (methodPair P) ms) ∷ [] ≡ T → Lays C L (at 0 p R [] (laying (S ++ t ∷ []) G o)) (3 * length ms) q o T (λ G′ R′. G′ ≡ G)
   lay-methods [] S t d f g h r e = done (none g) (rw append-nil at e) r refl
   lay-methods (m ∷ ms) {R = R} S t d f g h r e =
       let k : Val = Val.string (m .name) in
@@ -129,13 +122,13 @@ module _ {A : Type 0} (P : Classes A) {C : Program} {L : Limits} {o : Effects} w
       (step-then (do-const (head g) (omega arith))
       (step-then (do-const (head (tail g)) (omega arith))
       (write-then S t (head (tail (tail g))) here (has-other (write R 3 k) 4 3 v (λ e. omega arith) (has-written R 3 k)) (has-written (write R 3 k) 4 v)
-        (fresh-here t m ms f) r
-        (omega (arith, pairs-push S t, pairs-push S (t ++ map (methodPair P) (m ∷ ms)), length-append t (map (methodPair P) (m ∷ ms)), ap pairs e))
-        (λ r′. lay-methods ms S (t ++ methodPair P m ∷ []) (d .1) (fresh-more t m ms v (d .0) f) (tail (tail (tail g))) here r′
-          (ap (λ (u : Table). S ++ u ∷ []) (append-assoc t (methodPair P m ∷ []) (map (methodPair P) ms)) ∙ e)))))
+      (fresh-here t m ms f) r
+      (omega (arith, pairs-push S t, pairs-push S (t ++ map (methodPair P) (m ∷ ms)), length-append t (map (methodPair P) (m ∷ ms)), ap pairs e))
+      (λ r′. lay-methods ms S (t ++ methodPair P m ∷ []) (d .1) (fresh-more t m ms v (d .0) f) (tail (tail (tail g))) here r′
+      (ap (λ (u : Table). S ++ u ∷ []) (append-assoc t (methodPair P m ∷ []) (map (methodPair P) ms)) ∙ e)))))
 
   -- the class tables of N, each held by its global
-  lay-classes : (N : List (List ℕ)) → length N < mostGlobals → ((Bs : List (List ℕ)) (D : List ℕ) (Cs : List (List ℕ)) → Bs ++ D ∷ Cs ≡ N → placeIn (classNames P) D ≡ length Bs) → ((D : List ℕ) → DistinctNames (visible P D)) → ((D : List ℕ) → names (visible P D) (codes "#name") ≡ false)
+  lay-classes : (N : List (List ℕ)) → length N < mostGlobals → ((Bs : List (List ℕ)) (D : List ℕ) (Cs : List (List ℕ)) → Bs ++ D ∷ Cs ≡ N → placeIn (classNames P) D ≡ length Bs) → ((D : List ℕ) → Distinct (namesIn (visible P D))) → ((D : List ℕ) → among (namesIn (visible P D)) (codes "#name") ≡ false)
       → (Cs : List (List ℕ)) {p q : ℕ} {G : Table} {R : Registers} (Bs : List (List ℕ)) → Bs ++ Cs ≡ N → Seg C 0 p (layClasses P Cs) q → Holding (length Bs) G → Room L (map (classTable P) Bs) → Lays C L (at 0 p R [] (laying (map (classTable P) Bs) G o)) (5 * length Cs + 3 * visibleIn P Cs) q o (map (classTable P) N) (λ G′ R′. Holding (length N) G′)
   unfolding look pairs
   lay-classes N few placed differ keyless [] {G = G} Bs e g h r =
@@ -158,14 +151,14 @@ module _ {A : Type 0} (P : Classes A) {C : Program} {L : Limits} {o : Effects} w
       (step-then (do-const (head (tail (tail g))) (omega arith))
       (step-then (do-const (head (tail (tail (tail g)))) (omega arith))
       (write-then S [] (head (tail (tail (tail (tail g))))) here′ (has-other (write R₂ 3 nameKey) 4 3 (Val.string D) (λ e. omega arith) (has-written R₂ 3 nameKey)) (has-written (write R₂ 3 nameKey) 4 (Val.string D))
-        refl r₁ (omega (arith, pairs-push S [], ap pairs whole, pairs-append S (classTable P D ∷ U)))
-        (λ r₂. lay-on
-          (lay-methods (visible P D) S ((nameKey, Val.string D) ∷ []) (differ D) (fresh-first (visible P D) (Val.string D) (keyless D)) (s .left) here′ r₂ part)
-          (λ a. room-in-front (map (classTable P) (Bs ++ D ∷ [])) U (subst (Room L) (ap (map (classTable P)) (sym next) ∙ map-append (classTable P) (Bs ++ D ∷ []) Cs) a))
-          (λ G′ R′ r₃ q. lay-classes N few placed differ keyless Cs (Bs ++ D ∷ []) next (s .right)
-            (subst (Holding (length (Bs ++ D ∷ []))) (sym q)
-              (holding-more (classGlobal P D) (length S) (omega (arith, length-push Bs D)) (ap suc (placed Bs D Cs e)) (length-map Bs (classTable P)) h))
-            r₃)))))))
+      refl r₁ (omega (arith, pairs-push S [], ap pairs whole, pairs-append S (classTable P D ∷ U)))
+      (λ r₂. lay-on
+      (lay-methods (visible P D) S ((nameKey, Val.string D) ∷ []) (differ D) (fresh-first (visible P D) (Val.string D) (keyless D)) (s .left) here′ r₂ part)
+      (λ a. room-in-front (map (classTable P) (Bs ++ D ∷ [])) U (subst (Room L) (ap (map (classTable P)) (sym next) ∙ map-append (classTable P) (Bs ++ D ∷ []) Cs) a))
+      (λ G′ R′ r₃ q. lay-classes N few placed differ keyless Cs (Bs ++ D ∷ []) next (s .right)
+      (subst (Holding (length (Bs ++ D ∷ []))) (sym q)
+      (holding-more (classGlobal P D) (length S) (omega (arith, length-push Bs D)) (ap suc (placed Bs D Cs e)) (length-map Bs (classTable P)) h))
+      r₃)))))))
 
   -- an object of the class D, into register a
   lay-object : {p q : ℕ} {G : Table} {R : Registers} (a : ℕ) (D : List ℕ) (S : Tables) {T : Tables} → a < 3 → Seg C 0 p (layObject P a D) q → look (Val.identifier (classGlobal P D)) G ≡ Some (Val.location (placeIn (classNames P) D)) → Room L S → S ++ ((classKey, Val.location (placeIn (classNames P) D)) ∷ []) ∷ [] ≡ T
@@ -180,14 +173,14 @@ module _ {A : Type 0} (P : Classes A) {C : Program} {L : Limits} {o : Effects} w
       (λ r₁. step-then (do-const (head (tail g)) (omega arith))
       (step-then (do-rdGlob (head (tail (tail g))) (omega arith) held)
       (write-then S [] (head (tail (tail (tail g)))) here (has-other (write R₁ 3 classKey) 4 3 c (λ e. omega arith) (has-written R₁ 3 classKey)) (has-written (write R₁ 3 classKey) 4 c)
-        refl r₁ (omega (arith, pairs-push S [], ap pairs e, pairs-push S ((classKey, c) ∷ [])))
-        (λ r₂. done (last (tail (tail (tail g)))) e r₂ (refl, here)))))
+      refl r₁ (omega (arith, pairs-push S [], ap pairs e, pairs-push S ((classKey, c) ∷ [])))
+      (λ r₂. done (last (tail (tail (tail g)))) e r₂ (refl, here)))))
 
   -- nil, and the top-level self
   lay-firsts : {p q : ℕ} {G : Table} {R : Registers} (S : Tables) {T : Tables} → classCount P < mostGlobals → Seg C 0 p (layObject P 2 (codes "Bot") ++ (Instr.wrGlob nilGlobal 2 ∷ layObject P 1 (codes "Object"))) q → Holding (classCount P) G → length S ≡ classCount P → Room L S
       → S ++ ((classKey, Val.location (placeIn (classNames P) (codes "Bot"))) ∷ []) ∷ ((classKey, Val.location (placeIn (classNames P) (codes "Object"))) ∷ []) ∷ [] ≡ T
       → Lays C L (at 0 p R [] (laying S G o)) 9 q o T (λ G′ R′. Globals P G′ × Has R′ 1 (Val.location (classCount P + 1)))
-  lay-firsts {G = G} S few g h n r e = 
+  lay-firsts {G = G} S few g h n r e =
       let bot : Table = (classKey, Val.location (placeIn (classNames P) (codes "Bot"))) ∷ [] in
       let object : Table = (classKey, Val.location (placeIn (classNames P) (codes "Object"))) ∷ [] in
       let s = split (layObject P 2 (codes "Bot")) (Instr.wrGlob nilGlobal 2 ∷ layObject P 1 (codes "Object")) g in
@@ -210,31 +203,21 @@ module _ {A : Type 0} (P : Classes A) {C : Program} {L : Limits} {o : Effects} w
       (λ G R r h. lay-firsts (map (classTable P) (classNames P)) (w .few) (s .right) h (length-map (classNames P) (classTable P)) r refl)
 
 module _ {A : Type 0} (P : Classes A) where
-  length-first : length (tablesOf P firstHeap) ≡ classCount P + 2
-  unfolding classTables tablesOf
-  length-first = length-append (map (classTable P) (classNames P)) _ ∙ ap (λ (n : ℕ). n + 2) (length-map (classNames P) (classTable P))
-
-  pairs-classes : (Cs : List (List ℕ)) → pairs (map (classTable P) Cs) ≡ length Cs + visibleIn P Cs
-  unfolding pairs
-  pairs-classes [] = refl
-  pairs-classes (D ∷ Cs) = omega (arith, pairs-classes Cs, length-map (visible P D) (methodPair P))
-
-  pairs-first : pairs (tablesOf P firstHeap) ≡ classCount P + pairCount P + 2
-  unfolding classTables tablesOf pairs
-  pairs-first = pairs-append (map (classTable P) (classNames P)) _ ∙ ap (λ (n : ℕ). n + 2) (pairs-classes (classNames P))
-
-  -- the meaning begins where the tables find room
-  fits-first : (L : Limits) → Decides (fits (record { classes = P; limits = L }) firstHeap 0 0) (Room L (tablesOf P firstHeap))
-  unfolding fits heapPairs
-  fits-first L = (
-    (λ e.
-      let h = and-parts (leb (classCount P + 2 + 0) (L .tables)) (leb (classCount P + pairCount P + 2 + 0) (L .pairs)) e in
-      record {
-        tables-fit = omega (arith, length-first, leb-true _ _ (h .0));
-        pairs-fit = omega (arith, pairs-first, leb-true _ _ (h .1))
-      }),
-    (λ r. and-from _ _ (le-leb (classCount P + 2 + 0) (L .tables) (omega (arith, length-first, r .tables-fit))) (le-leb (classCount P + pairCount P + 2 + 0) (L .pairs) (omega (arith, pairs-first, r .pairs-fit)))),
-  )
+  -- the objects fit where their tables and those of the classes find room
+  pub fits-room : (L : Limits) (H : Heap) → Decides (fits (record { classes = P; limits = L }) H 0 0) (Room L (tablesOf P H))
+  unfolding fits
+  fits-room L H =
+      let tables = leb (classCount P + length H + 0) (L .tables) in
+      let pairs = leb (classCount P + pairCount P + heapPairs H + 0) (L .pairs) in (
+        (λ e.
+            let h = and-parts tables pairs e in
+            record {
+              tables-fit = omega (arith, length-tables P H, leb-true _ _ (h .0));
+              pairs-fit = omega (arith, pairs-tables P H, leb-true _ _ (h .1));
+            }),
+        (λ r. and-from tables pairs
+            (le-leb _ _ (omega (arith, length-tables P H, r .tables-fit))) (le-leb _ _ (omega (arith, pairs-tables P H, r .pairs-fit)))),
+      )
 
   -- how many steps the start-up code takes
   abbrev pub startingSteps : ℕ
@@ -262,11 +245,11 @@ module _ {A : Type 0} (P : Classes A) {C : Program} {L : Limits} {q : ℕ} (left
   starts-up e = by (lay-all P w g) where
     by : Lays C L (initial left) (startingSteps P) q (nothingYet left) (tablesOf P firstHeap) (λ G R. Globals P G × Has R 1 (Val.location (classCount P + 1))) → Started P C L left q
     by (laid j G R h b r φ) = record { globals = G; registers = R; steps = j; globals-hold = φ .0; self-in = φ .1; runs = h; soon = b }
-    by (full j h b n) = absurd (n (fits-first P L .0 e))
+    by (full j h b n) = absurd (n (fits-room P L firstHeap .0 e))
 
   -- where they do not, it ends as the meaning does
   pub fails-to-start : fits (record { classes = P; limits = L }) firstHeap 0 0 ≡ false → Unstarted P C L left
   fails-to-start e = by (lay-all P w g) where
     by : Lays C L (initial left) (startingSteps P) q (nothingYet left) (tablesOf P firstHeap) (λ G R. Globals P G × Has R 1 (Val.location (classCount P + 1))) → Unstarted P C L left
-    by (laid j G R h b r φ) = absurd (both-ways _ e (fits-first P L .1 r))
+    by (laid j G R h b r φ) = absurd (both-ways _ e (fits-room P L firstHeap .1 r))
     by (full j h b n) = record { steps = j; runs = h; soon = b }
