@@ -1,23 +1,22 @@
 -- Code that lays tables: it goes on while they find room, and ends the run where they do not. Assumes nothing.
-use mathlib.Core.Path.{_≡_, refl, sym, ap, subst, _∙_}
+use mathlib.Core.Path.{_≡_, refl, ap, _∙_}
 use mathlib.Core.Logic.{⊎-elim}
-use mathlib.Core.Bool.{Bool, true, false}
-use mathlib.Core.List.{List, [], _∷_, _++_}
-use Prim.Native.Nat.{ℕ, zero, suc, _+_, _<_, _≤_}
+use mathlib.Core.List.{[], _∷_, _++_}
+use Prim.Native.Nat.{ℕ, suc, _+_, _<_, _≤_}
 use native.Mathlib.Omega.{arith}
 use lib.ListN.{length, getD}
-use Rattle.std.specs.declared.option.Option.the-variants.{Some, None}
+use Rattle.std.specs.declared.option.Option.the-variants.{None}
 use Rattle.std.proofs.shelf.Lists.{length-append, length-push, getD-push, set-at}
 use Rattle.std.proofs.shelf.Tests.{cases-lt, lt-ltb, le-ltb}
 use Rattle.store.specs.Val.{Val}
 use Rattle.store.specs.Tables as store
-use Rattle.store.specs.Tables.{Table, Tables, look, put, pairs, made}
+use Rattle.store.specs.Tables.{Table, Tables, look, put, pairs}
 use Rattle.store.proofs.Tables.{put-new, takes-new}
 use Rattle.machine.specs.declared.ending.Ending.the-variants.{NoTableSpace}
 use Rattle.machine.specs.Limits.{registersPerFrame, Limits}
 use Rattle.machine.specs.Effects.{Effects}
 use Rattle.machine.specs.Instr.{Instr, Program}
-use Rattle.machine.specs.State.{Registers, write, World, State, at, Next, goes, ends}
+use Rattle.machine.specs.State.{Registers, write, World, State, at, goes, ends}
 use Rattle.machine.proofs.Judge.{Has, Fetch, Step, Run}
 use Rattle.machine.proofs.Runs.{run-add, run-none, run-one}
 use Rattle.machine.proofs.Exec.{do-mkTab, end-mkTab, do-wrTab, end-wrTab}

@@ -1,8 +1,8 @@
 -- Accepted classes are orderly: no class and no method that a class finds is named twice. Assumes nothing.
 use mathlib.Core.Path.{_≡_, refl, sym, ap, subst, _∙_}
-use mathlib.Core.Bool.{Bool, true, false, cond, not, _&&_, _||_}
+use mathlib.Core.Bool.{Bool, true, false, not, _&&_, _||_}
 use mathlib.Core.List.{List, [], _∷_, _++_, map, reverse, reverseAux}
-use Prim.Native.Nat.{ℕ, zero, suc, _+_, _<_, _≤_}
+use Prim.Native.Nat.{ℕ, suc, _+_, _<_}
 use native.Mathlib.Omega.{arith}
 use lib.Chars.{codes}
 use lib.ListN.{length}
@@ -12,14 +12,14 @@ use Rattle.std.proofs.shelf.Equals.{sameBytes-decides}
 use Rattle.std.proofs.shelf.Lists.{map-append, length-reverse, length-map}
 use Rattle.std.proofs.shelf.Tests.{both-ways, not-true, and-parts, or-parts, or-from, or-left, or-right, cond-both}
 use Rattle.machine.specs.Limits.{mostGlobals}
-use Rattle.grammar.specs.Tree.{Method, Class}
+use Rattle.grammar.specs.Tree.{Method}
 use Rattle.rube.specs.declared.builtin.Builtin.{Builtin}
 use Rattle.rube.specs.Builtin as builtin
-use Rattle.rube.specs.Builtin.{className, builtinClasses}
-use Rattle.rube.specs.Classes.{Named, Classes, among, names, rowsOf, own, inherited, visible, addedMethods, classNames, classCount, known}
+use Rattle.rube.specs.Builtin.{className}
+use Rattle.rube.specs.Classes.{Named, Classes, among, names, rowsOf, own, inherited, visible, addedMethods, classNames, classCount}
 use Rattle.compiler.specs.Layout.{placeIn}
 use Rattle.correctness.specs.Fitting.{MethodName}
-use Rattle.correctness.specs.Accepted.{Distinct, added, Acceptable, Accepted, Few}
+use Rattle.correctness.specs.Accepted.{Distinct, added, Accepted, Few}
 use Rattle.correctness.proofs.Values.{same-bytes, bytes-either-way}
 use Rattle.correctness.proofs.Lookup.{builtInNames, known-is, added-unlike}
 

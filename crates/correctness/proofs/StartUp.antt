@@ -1,13 +1,13 @@
 -- The start-up code of a run: class tables, nil and the top-level self, or the end for want of room. Assumes nothing.
 use mathlib.Core.Path.{_≡_, refl, sym, ap, subst, _∙_}
-use mathlib.Core.Logic.{_≢_, ⊎-elim}
-use mathlib.Core.Bool.{Bool, true, false, cond, _||_}
+use mathlib.Core.Logic.{⊎-elim}
+use mathlib.Core.Bool.{Bool, true, false, cond}
 use mathlib.Core.List.{List, [], _∷_, _++_, map}
 use Prim.Native.Nat.{ℕ, zero, suc, _+_, _*_, _<_, _≤_}
 use native.Mathlib.Omega.{arith}
 use lib.Chars.{codes}
 use lib.Dec.{leb}
-use lib.ListN.{length}
+use lib.ListN.{length, getD}
 use Rattle.std.specs.Options.{isSome}
 use Rattle.std.specs.Orderings.{Decides}
 use Rattle.std.specs.shelf.Text.{sameBytes}
@@ -15,15 +15,11 @@ use Rattle.std.specs.declared.option.Option.the-variants.{Some, None}
 use Rattle.std.proofs.shelf.Equals.{sameBytes-decides}
 use Rattle.std.proofs.shelf.Lists.{append-assoc, append-nil, map-append, map-push, length-append, length-push, length-map}
 use Rattle.std.proofs.shelf.Tests.{both-ways, or-right, lt-ltb, cases-eq, leb-true, le-leb, and-parts, and-from}
-use Rattle.std.proofs.shelf.Ways.{same-from-decides}
-use Rattle.text.specs.Memory.{equalBytes}
-use Rattle.text.proofs.Meanings.{decides-bytes}
 use Rattle.store.specs.Val.{Val, equalVal}
 use Rattle.store.specs.Tables.{Table, Tables, look, put, pairs}
-use Rattle.store.proofs.Values.{decides-val}
 use Rattle.store.proofs.Tables.{look-put-same, look-put-other}
 use Rattle.machine.specs.declared.ending.Ending.the-variants.{NoTableSpace}
-use Rattle.machine.specs.Limits.{registersPerFrame, mostGlobals, Limits}
+use Rattle.machine.specs.Limits.{mostGlobals, Limits}
 use Rattle.machine.specs.Effects.{Effects, nothingYet}
 use Rattle.machine.specs.Instr.{Instr, Program}
 use Rattle.machine.specs.State.{Registers, write, passed, at, goes, ends, initial}
@@ -31,11 +27,11 @@ use Rattle.machine.specs.Step.{holdsGlobal}
 use Rattle.machine.proofs.Judge.{Has, Run}
 use Rattle.machine.proofs.Exec.{do-const, do-rdGlob, do-wrGlob}
 use Rattle.rube.specs.Classes.{Named, Classes, among, visible, classNames, classCount, known, visibleIn, pairCount}
-use Rattle.rube.specs.Heap.{Heap, firstHeap, topSelf, fits, heapPairs}
+use Rattle.rube.specs.Heap.{Heap, noCell, firstHeap, topSelf, fits, heapPairs}
 use Rattle.rube.specs.Meaning.{first}
 use Rattle.compiler.specs.Layout.{classKey, nameKey, nilGlobal, classGlobal, placeIn}
 use Rattle.compiler.specs.Whole.{layMethods, layClasses, layObject, startCode}
-use Rattle.correctness.proofs.Relation.{shift, methodPair, classTable, classTables, tablesOf, Globals, world}
+use Rattle.correctness.proofs.Relation.{shift, methodPair, classTable, classTables, tablesOf, Globals, world, FineCell, anObject, self, Proper}
 use Rattle.correctness.proofs.Segments.{Seg, split, head, tail, none, last}
 use Rattle.correctness.proofs.Registers.{has-written, has-other, place-below}
 use Rattle.correctness.proofs.Values.{string-key}
@@ -218,6 +214,16 @@ module _ {A : Type 0} (P : Classes A) where
         (λ r. and-from tables pairs
             (le-leb _ _ (omega (arith, length-tables P H, r .tables-fit))) (le-leb _ _ (omega (arith, pairs-tables P H, r .pairs-fit)))),
       )
+
+  first-cell : (l : ℕ) → l < 2 → FineCell P firstHeap l (getD firstHeap l noCell)
+  first-cell zero b = anObject refl refl tt
+  first-cell (suc zero) b = anObject refl refl tt
+  first-cell (suc (suc l)) b = absurd (omega arith)
+
+  -- where the first objects fit, the meaning begins in a proper state
+  pub first-proper : {L : Limits} {left : ℕ} → fits (record { classes = P; limits = L }) firstHeap 0 0 ≡ true → Proper P L topSelf (first left)
+  first-proper e =
+      record { heap-fine = record { cells = first-cell; bot = ([], refl) }; me-fine = self {l = 1} refl refl refl; locals-fine = tt; space = e }
 
   -- how many steps the start-up code takes
   abbrev pub startingSteps : ℕ
