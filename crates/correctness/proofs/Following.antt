@@ -63,3 +63,10 @@ pub finish : {A X : Type 0} {P : Classes A} {C : Program} {L : Limits} {G : Tabl
 finish (sval {v = v} {s = s} j R h b φ) κ = after j h (omega arith) (omega arith) (κ v s R φ)
 finish (send j h b) κ = send j h (omega arith)
 finish (sout j m′ h b) κ = sout j m′ h b
+
+-- less may be said of an answer
+pub weaken : {A X : Type 0} {P : Classes A} {C : Program} {L : Limits} {G : Table} {f q : ℕ} {S : List Frame} {Φ Ψ : X → State → Registers → Type 0} {k c n : ℕ} {m : machine.State} {x : Res X}
+    → ((v : X) (s : State) (R : Registers) → Φ v s R → Ψ v s R) → Sim P C L G k m c n f q S Φ x → Sim P C L G k m c n f q S Ψ x
+weaken κ (sval j R h b φ) = sval j R h b (κ _ _ _ φ)
+weaken κ (send j h b) = send j h b
+weaken κ (sout j m′ h b) = sout j m′ h b

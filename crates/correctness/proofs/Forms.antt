@@ -211,7 +211,7 @@ module _ {A : Type 0} (P : Classes A) (L : Limits) (C : Program) (G : Table) (gl
 
     pub nil-good : (a : A) → Ok (Expr.nil a)
     unfolding eval compile
-    nil-good a = record { sim = λ h b g. count-then (step-then (do-rdGlob (head g) b (globals .nils)) (done (last g) (answer P L (first P L h) (nil-fine (h .proper .heap-fine))))) }
+    nil-good a = record { sim = λ h b g. count-then (step-then (do-rdGlob (head g) b (globals .nils)) (done (last g) (answer P L (first P L h) (nil-fine (h .proper .heap-fine .fine))))) }
 
     pub self-good : (a : A) → Ok (Expr.self a)
     unfolding eval compile

@@ -1,6 +1,8 @@
 pub mod Relation
 pub mod Segments
 pub mod Following
+pub mod Loaded
+pub mod Lookup
 pub mod Values
 pub mod Tabled
 pub mod Registers
@@ -9,8 +11,7 @@ pub mod Forms
 pub mod Returning
 pub mod Classed
 pub mod Fields
-pub mod Loaded
-pub mod Lookup
+pub mod Calls
 pub mod Laying
 pub mod Orderly
 pub mod StartUp
