@@ -27,7 +27,7 @@ use Rattle.machine.specs.Step.{holdsGlobal}
 use Rattle.machine.proofs.Judge.{Has, Run}
 use Rattle.machine.proofs.Exec.{do-const, do-rdGlob, do-wrGlob}
 use Rattle.rube.specs.Classes.{Named, Classes, among, visible, classNames, classCount, known, visibleIn, pairCount}
-use Rattle.rube.specs.Heap.{Heap, noCell, firstHeap, topSelf, fits, heapPairs}
+use Rattle.rube.specs.Heap.{Cell, Heap, noCell, cellClass, firstHeap, topSelf, fits, heapPairs}
 use Rattle.rube.specs.Meaning.{first}
 use Rattle.compiler.specs.Layout.{classKey, nameKey, nilGlobal, classGlobal, placeIn}
 use Rattle.compiler.specs.Whole.{layMethods, layClasses, layObject, startCode}
@@ -198,6 +198,12 @@ module _ {A : Type 0} (P : Classes A) {C : Program} {L : Limits} {o : Effects} w
       (room-in-front (map (classTable P) (classNames P)) _)
       (λ G R r h. lay-firsts (map (classTable P) (classNames P)) (w .few) (s .right) h (length-map (classNames P) (classTable P)) r refl)
 
+-- none of the first objects is a Map
+first-no-map : (l : ℕ) → sameBytes (cellClass (getD firstHeap l noCell)) (codes "Map") ≡ false
+first-no-map zero = refl
+first-no-map (suc zero) = refl
+first-no-map (suc (suc l)) = refl
+
 module _ {A : Type 0} (P : Classes A) where
   -- the objects fit where their tables and those of the classes find room
   pub fits-room : (L : Limits) (H : Heap) → Decides (fits (record { classes = P; limits = L }) H 0 0) (Room L (tablesOf P H))
@@ -223,7 +229,15 @@ module _ {A : Type 0} (P : Classes A) where
   -- where the first objects fit, the meaning begins in a proper state
   pub first-proper : {L : Limits} {left : ℕ} → fits (record { classes = P; limits = L }) firstHeap 0 0 ≡ true → Proper P L topSelf (first left)
   first-proper e =
-      record { heap-fine = record { cells = first-cell; bot = ([], refl) }; me-fine = self {l = 1} refl refl refl; locals-fine = tt; space = e }
+      record {
+        heap-fine = record {
+          fine = record { cells = first-cell; bot = ([], refl) };
+          backed = record { behind = λ l fs h. absurd (both-ways _ (first-no-map l) (ap (λ (c : Cell). sameBytes (cellClass c) (codes "Map")) h)) };
+        };
+        me-fine = self {l = 1} refl refl refl;
+        locals-fine = tt;
+        space = e;
+      }
 
   -- how many steps the start-up code takes
   abbrev pub startingSteps : ℕ
