@@ -24,3 +24,4 @@ pub mod GlobalsUsed
 pub mod Laying
 pub mod Orderly
 pub mod StartUp
+pub mod Objects
