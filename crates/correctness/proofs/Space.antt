@@ -27,7 +27,7 @@ use Rattle.rube.specs.Meaning.{cellsOf}
 use Rattle.compiler.specs.Layout.{classKey, contentsKey}
 use Rattle.correctness.specs.Fitting.{FieldName}
 use Rattle.correctness.proofs.Relation.{shift, tablesOf}
-use Rattle.correctness.proofs.Tabled.{length-tables, length-made, no-contents-yet, pairs-tables, cell-here, object-table-here, read-field, read-key}
+use Rattle.correctness.proofs.Tabled.{cells-object, length-tables, length-made, no-contents-yet, pairs-tables, cell-here, object-table-here, read-field, read-key}
 
 -- a write takes a pair where the key is new
 pub length-put : (k v : Val) (t : Table) → length (put k v t) ≡ length t + newPairs k t
@@ -199,6 +199,9 @@ module _ {A : Type 0} (P : Classes A) (L : Limits) where
   makes-class H e =
       makes H (classCount P + length H) classKey e (omega (arith, length-tables P H))
       (read-unmade (tablesOf P H) (classCount P + length H) classKey (le-ltb _ _ (omega (arith, length-tables P H))))
+
+  pub makes-object : (C : List ℕ) (H : Heap) → fits within H 0 0 ≡ true → sameBytes C (codes "Map") ≡ false → Makes L (tablesOf P H) (classCount P + length H) classKey (fits within H (length (cellsOf C H)) (length (cellsOf C H)))
+  makes-object C H e m = rw (cells-object C H m) (makes-class H e)
 
   -- an object that is no Map takes one table and one pair
   pub fits-object : (C : List ℕ) (H : Heap) (t p : ℕ) → fits within (H ++ Cell.object C [] ∷ []) t p ≡ fits within H (suc t) (suc p)

@@ -230,6 +230,13 @@ module _ {A : Type 0} (P : Classes A) where
   pub length-made : (H : Heap) (x : Cell) → length (tablesOf P (H ++ x ∷ [])) ≡ classCount P + suc (length H)
   length-made H x = length-tables (H ++ x ∷ []) ∙ simp length-append (omega arith)
 
+  -- the table that was just made is there, and stays there
+  pub new-table-here : (H : Heap) → classCount P + length H < length (tablesOf P H ++ [] ∷ [])
+  new-table-here H = omega (arith, length-append (tablesOf P H) ([] ∷ []), length-tables H)
+
+  pub old-table-here : (H : Heap) (x : Cell) → classCount P + length H < length (tablesOf P (H ++ x ∷ []) ++ [] ∷ [])
+  old-table-here H x = omega (arith, length-append (tablesOf P (H ++ x ∷ [])) ([] ∷ []), length-made H x)
+
   pub no-contents-yet : (H : Heap) (C : List ℕ) → store.read (tablesOf P (H ++ Cell.object C [] ∷ [])) (classCount P + length H) contentsKey ≡ None
   unfolding look
   no-contents-yet H C = read-other (H ++ Cell.object C [] ∷ []) (length H) contentsKey (new-object H C) contents-no-class
