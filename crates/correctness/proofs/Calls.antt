@@ -128,7 +128,7 @@ module _ {A : Type 0} (P : Classes A) (L : Limits) (C : Program) (G : Table) (gl
     framed-then {t = t} s r vs x f′ zero c e h w ws b i hs g =
         let lm = length-map vs (shift P) in
         let fr = h .frames in
-        ending (end-call (head g) i hs (omega arith) (c .function) (omega arith))
+        ending refl (end-call (head g) i hs (omega arith) (c .function) (omega arith))
     framed-then {t = t} s r vs x f′ (suc d) c e h w ws b i hs g =
         let lm = length-map vs (shift P) in
         let fr = h .frames in
@@ -164,7 +164,7 @@ module _ {A : Type 0} (P : Classes A) (L : Limits) (C : Program) (G : Table) (gl
         (step-then (do-hasTab (head (tail g)) (omega arith) c₁ here (has-written R (t + 3 + n) (Val.string x)))
         (rw rd (step-then (do-ifZero (head (tail (tail g))) (has-written R₁ (t + 4 + n) (truth false)) (forward _ _ _ (one _)))
         (step-then (do-const (head (tail (tail (tail (tail g))))) (omega arith))
-        (ending (end-halt (head (tail (tail (tail (tail (tail g)))))) (has-written R₂ (t + 4 + n) (number 1))))))))
+        (ending refl (end-halt (head (tail (tail (tail (tail (tail g)))))) (has-written R₂ (t + 4 + n) (number 1))))))))
     sent-then {t = t} {R = R} s r vs x d n (Some f′) cs e m rd h w ws b i hs c g =
         let fn = Val.identifier (functionOf f′) in
         let R₁ = write R (t + 3 + n) (Val.string x) in
@@ -192,7 +192,7 @@ module _ {A : Type 0} (P : Classes A) (L : Limits) (C : Program) (G : Table) (gl
           (framed-then s r vs x f′ d (cs f′ refl) e h₄ w ws (omega arith) fn₄ (more (rw m (has-written R₃ t (number n))) (more i₄ hs₄)) (rw m (tail (tail (tail (tail (tail (tail (tail (tail g)))))))))))))))))
 
     -- an invocation's method is looked up, and entered if it is there
-    send-then : {f p q t : ℕ} {ns : List (List ℕ)} {me : Val} {S : List Frame} {R₀ : Registers} {H₀ : Heap} {R : Registers} (s : State) (r : Val) (vs : List Val) (x : List ℕ) (d n : ℕ)
+    pub send-then : {f p q t : ℕ} {ns : List (List ℕ)} {me : Val} {S : List Frame} {R₀ : Registers} {H₀ : Heap} {R : Registers} (s : State) (r : Val) (vs : List Val) (x : List ℕ) (d n : ℕ)
         → ((f′ : Callee A) → lookup P (classOf (s .heap) r) x ≡ Some f′ → Callable f′) → length vs ≡ n → MethodName x
         → Pre P L ns me d t S R₀ H₀ R s → Fine P (s .heap) r → All (Fine P (s .heap)) vs → t + n + 4 < registersPerFrame
         → Has R (suc t) (shift P r) → Hold R (t + 2) (map (shift P) vs) → Seg C f p (send P t x n) q

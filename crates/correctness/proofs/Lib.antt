@@ -16,3 +16,8 @@ pub mod Classed
 pub mod Fields
 pub mod Calls
 pub mod Methods
+pub mod Closing
+pub mod Fitted
+pub mod Spelling
+pub mod CodeLength
+pub mod GlobalsUsed

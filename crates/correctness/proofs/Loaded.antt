@@ -1,5 +1,5 @@
 -- The code of each function stands in the compiled program. Assumes nothing.
-use mathlib.Core.Path.{_≡_, refl, sym, ap, _∙_}
+use mathlib.Core.Path.{_≡_, refl, ap, _∙_}
 use mathlib.Core.List.{List, [], _∷_, _++_, append-assoc, map}
 use Prim.Native.Nat.{ℕ, zero, suc, _+_}
 use native.Mathlib.Omega.{arith}
@@ -9,7 +9,6 @@ use Rattle.std.specs.Finite.{nth}
 use Rattle.std.specs.declared.option.Option.the-variants.{Some}
 use Rattle.machine.specs.declared.arith.Op.the-variants.{Add, Sub, Mul, Div}
 use Rattle.machine.specs.Instr.{Instr, Program, fetch}
-use Rattle.machine.proofs.Judge.{Fetch}
 use Rattle.grammar.specs.Tree.{Expr, Method}
 use Rattle.rube.specs.declared.builtin.Operation.{Operation}
 use Rattle.rube.specs.declared.builtin.Operation.the-variants.{

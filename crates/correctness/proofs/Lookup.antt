@@ -1,16 +1,15 @@
 -- Which methods a class finds. Assumes nothing.
-use mathlib.Core.Path.{_≡_, refl, sym, ap, subst, _∙_}
+use mathlib.Core.Path.{_≡_, refl, sym, ap, _∙_}
 use mathlib.Core.Bool.{Bool, true, false, cond, not, _||_, _&&_}
 use mathlib.Core.Logic.{⊎-elim}
 use mathlib.Core.List.{List, [], _∷_, _++_, map, reverse, reverseAux}
-use Prim.Native.Nat.{ℕ, zero, suc, _+_, _<_, _≤_}
+use Prim.Native.Nat.{ℕ, zero, suc, _+_, _<_}
 use native.Mathlib.Nat.{zero-add, suc-add}
 use native.Mathlib.Omega.{arith}
 use lib.Chars.{codes}
 use lib.Dec.{eqb}
 use lib.ListN.{length, getD, length-append}
 use Rattle.std.specs.Finite.{nth}
-use Rattle.std.specs.Orderings.{Decides}
 use Rattle.std.specs.declared.option.Option.{Option}
 use Rattle.std.specs.declared.option.Option.the-variants.{Some, None}
 use Rattle.std.specs.shelf.Text.{sameBytes}
@@ -41,11 +40,11 @@ use Rattle.rube.specs.declared.builtin.Operation.the-variants.{
 use Rattle.rube.specs.declared.builtin.Builtin.{Builtin}
 use Rattle.rube.specs.Builtin as builtin
 use Rattle.rube.specs.Builtin.{className, builtinClasses}
-use Rattle.rube.specs.Classes.{Named, Callee, Classes, among, names, rowsOf, own, find, inherited, visible, lookup, addedMethods, allMethods, classNames, known}
+use Rattle.rube.specs.Classes.{Named, Callee, Classes, among, names, rowsOf, own, find, inherited, visible, lookup, addedMethods, allMethods, known}
 use Rattle.compiler.specs.Layout.{operationFunction, functionOf}
 use Rattle.compiler.specs.Builtins.{operationParameters}
 use Rattle.correctness.proofs.Values.{bytes-either-way}
-use Rattle.correctness.specs.Accepted.{added, Acceptable, Accepted, Few, mostMethods}
+use Rattle.correctness.specs.Accepted.{added, Accepted, Few}
 
 -- names
 

@@ -80,7 +80,7 @@ module _ {A : Type 0} (P : Classes A) (L : Limits) (C : Program) (G : Table) whe
       (step-then (do-eq (head (tail g)) u (has-written R t (number n)) m₁)
       (rw is (step-then (do-ifZero (head (tail (tail g))) (has-written R₁ t (truth false)) (forward _ _ _ (one _)))
       (step-then (do-const (head (tail (tail (tail (tail g))))) u)
-      (ending (end-halt (head (tail (tail (tail (tail (tail g)))))) (has-written R₂ t (number 5))))))))
+      (ending refl (end-halt (head (tail (tail (tail (tail (tail g)))))) (has-written R₂ t (number 5))))))))
 
   -- what the marks leave: the registers from r on hold marks, the others are as they were
   pub record Marked (r n : ℕ) (R R′ : Registers) : Type 0 where

@@ -1,5 +1,5 @@
 -- Names and their registers: where a body's names stand, and what a callee finds in them. Assumes nothing.
-use mathlib.Core.Path.{_≡_, refl, sym, ap, subst, _∙_}
+use mathlib.Core.Path.{_≡_, refl, sym, ap, _∙_}
 use mathlib.Core.Bool.{Bool, true, false, cond, _||_}
 use mathlib.Core.Logic.{⊎-elim}
 use mathlib.Core.List.{List, [], _∷_, _++_, append-nil, append-assoc, map}
@@ -13,9 +13,9 @@ use Rattle.std.proofs.shelf.Tests.{both-ways, cases-lt}
 use Rattle.store.specs.Val.{Val}
 use Rattle.store.specs.Tables.{look}
 use Rattle.machine.specs.Limits.{Limits, registersPerFrame}
-use Rattle.machine.specs.Instr.{Program}
+use Rattle.machine.specs.Instr.{Instr, Program}
 use Rattle.machine.specs.State.{Registers, read, write, passed, Frame, World, at, goes}
-use Rattle.machine.proofs.Judge.{Has, Hold, none, more, Run}
+use Rattle.machine.proofs.Judge.{Has, Hold, none, more, Fetch, Run}
 use Rattle.machine.proofs.Registers.{read-written, read-other, passed-reads}
 use Rattle.machine.proofs.Runs.{run-none, run-one, run-add}
 use Rattle.machine.proofs.Exec.{do-const}
@@ -169,3 +169,38 @@ pub record Marked (C : Program) (L : Limits) (f p q : ℕ) (R : Registers) (S : 
   pub runs : Run C L n (at f p R S W) (goes (at f q after S W))
   pub marked : (i : ℕ) → r ≤ i → i < r + n → Has after i mark
   pub before : (i : ℕ) → i < r → read after i ≡ read R i
+
+marks-more : {C : Program} {L : Limits} {f p q : ℕ} {S : List Frame} {W : World} {R : Registers} {r n : ℕ} → Fetch C f p (Instr.const r mark) → r < registersPerFrame → Marked C L f (suc p) q (write R r mark) S W (suc r) n → Marked C L f p q R S W r (suc n)
+marks-more {R = R} {r = r} {n = n} h b on =
+    let one : 1 + n ≡ suc n = omega arith in
+    record {
+      after = on .after;
+      runs = rw one at (run-add (run-one (do-const h b)) (on .runs));
+      marked = λ i l u. ⊎-elim
+          (λ (h : i < suc r). let e : i ≡ r = omega arith in record { is = rw e (on .before r (omega arith) ∙ read-written R r mark) })
+          (λ (h : suc r ≤ i). on .marked i h (omega arith))
+          (cases-lt i (suc r));
+      before = λ i u. on .before i (omega arith) ∙ read-other R r i mark (λ e. omega arith);
+    }
+
+pub marks-run : {C : Program} {L : Limits} {f p q : ℕ} {S : List Frame} {W : World} (R : Registers) (r n : ℕ) → r + n ≤ registersPerFrame → Seg C f p (marks r n) q → Marked C L f p q R S W r n
+marks-run R r zero b c =
+    record { after = R; runs = rw (seg.none c) run-none; marked = λ i l u. absurd (omega arith); before = λ i u. refl }
+marks-run R r (suc n) b c = marks-more (head c) (omega arith) (marks-run (write R r mark) (suc r) n (omega arith) (tail c))
+
+-- a body begins: after the marks its names stand in their registers
+pub body-begins : {A : Type 0} {P : Classes A} {C : Program} {L : Limits} {f p q : ℕ} {S : List Frame} {W : World} (ps : List (List ℕ)) (e : Expr A) (me : Val) (vs : List Val) (R : Registers)
+    → Seg C f p (marks (2 + length ps) (length (slots ps e) - length ps)) q → free (slots ps e) ≤ registersPerFrame → length vs ≡ length ps → Hold R 1 (shift P me ∷ map (shift P) vs)
+    → (R′ : Registers) × Run C L (length (slots ps e) - length ps) (at f p R S W) (goes (at f q R′ S W)) × Stand P (slots ps e) me (bind ps vs) R′
+body-begins {A} {P} {C} {L} {f} {p} {q} {S} {W} ps e me vs R c b n (more self rest) =
+    let begin = ap length (names-begin ps e .is) ∙ length-append ps (names-begin ps e .rest) in
+    let m = marks-run {L = L} {S = S} {W = W} R (2 + length ps) (length (slots ps e) - length ps) (omega arith) c in (
+      m .after,
+      m .runs,
+      enters ps e me vs (m .after) n
+          (record { is = m .before 1 (omega arith) ∙ self .is })
+          (λ i v h.
+          let l = nth-below vs i v h in
+          record { is = m .before (2 + i) (omega arith) ∙ held-at i (shift P v) rest (nth-mapped (shift P) vs i v h) .is })
+          (λ i l u. m .marked (2 + i) (omega arith) (omega arith)),
+    )
