@@ -12,18 +12,18 @@ use Rattle.std.specs.shelf.Text.{sameBytes}
 use Rattle.std.specs.declared.option.Option.the-variants.{Some}
 use Rattle.std.proofs.shelf.Elements.{all-weaker}
 use Rattle.std.proofs.shelf.Equals.{sameBytes-decides}
-use Rattle.std.proofs.shelf.Lists.{length-append, length-set, getD-append-left, getD-append-add, getD-append-right, getD-set-same, getD-set-other, set-past}
+use Rattle.std.proofs.shelf.Lists.{length-append, length-set, getD-at, getD-append-left, getD-append-add, getD-append-right, getD-set-same, getD-set-other, set-past}
 use Rattle.std.proofs.shelf.Tests.{cases-eq, cases-lt, both-ways}
 use Rattle.store.specs.Val.{Val, equalVal}
+use Rattle.store.specs.Tables as store
 use Rattle.store.specs.Tables.{Table, look, put}
-use Rattle.rube.specs.Classes.{Classes, known}
+use Rattle.rube.specs.Classes.{Classes, known, classCount}
 use Rattle.rube.specs.Heap.{Cell, Heap, noCell, firstHeap, cellClass, cellTable, withTable, classOf, fieldsOf, putAt}
 use Rattle.rube.specs.Meaning.{cellsOf}
 use Rattle.compiler.specs.Layout.{contentsKey}
 use Rattle.correctness.specs.Fitting.{FieldName}
-use Rattle.correctness.proofs.Relation.{Fine, integer, text, object, FineField, FineCell, aMap, anObject, itsContents, Plain, FineHeap, Backed, Sound, Self, self, Grows}
-use Rattle.correctness.proofs.Tabled.{object-here, cells-object}
-
+use Rattle.correctness.proofs.Relation.{tablesOf, Fine, integer, text, object, FineField, FineCell, aMap, anObject, itsContents, Plain, FineHeap, Backed, Sound, Self, self, Grows}
+use Rattle.correctness.proofs.Tabled.{object-here, new-object, cells-object, read-contents}
 
 -- contents stay contents
 pub record KeepsContents (H H′ : Heap) : Type 0 where
@@ -62,6 +62,7 @@ put-shape H l k v j =
     (λ (n : j ≡ l → ⊥). (fieldsOf H j, getD-set-other H l j (withTable (put k v (fieldsOf H l)) (getD H l noCell)) noCell n ∙ sym (with-same (getD H j noCell))))
     (cases-eq j l)
 
+-- a write makes no cell
 pub length-putAt : (H : Heap) (l : ℕ) (k v : Val) → length (putAt H l k v) ≡ length H
 length-putAt H l k v = length-set H l (withTable (put k v (fieldsOf H l)) (getD H l noCell))
 
@@ -72,9 +73,11 @@ object-before H l k v j C gs e = let s = put-shape H l k v j in by (s .0) (getD 
   by t (Cell.object D fs) g = (fs, cc)
   by t (Cell.contents u) g = let z : _≡_ {A = ℕ} 0 1 = cc in absurd (omega arith)
 
+-- a write keeps contents
 pub keeps-put : (H : Heap) (l : ℕ) (k v : Val) → KeepsContents H (putAt H l k v)
 keeps-put H l k v = record { contents = λ j t b e. let s = put-shape H l k v j in (s .0, s .1 ∙ ap (withTable (s .0)) e) }
 
+-- and so do new cells
 pub keeps-more : (H R : Heap) → KeepsContents H (H ++ R)
 keeps-more H R = record { contents = λ l t b e. (t, getD-append-left H R noCell l b ∙ e) }
 
@@ -83,20 +86,25 @@ module _ {A : Type 0} (P : Classes A) where
   pub grows-same : (H : Heap) → Grows P H H
   grows-same H = record { objects = λ l C fs e. (fs, e) }
 
+  -- and one growth after another is one
   pub grows-then : {H H′ H″ : Heap} → Grows P H H′ → Grows P H′ H″ → Grows P H H″
   grows-then g g′ = record { objects = λ l C fs e. let x = g .objects l C fs e in g′ .objects l C (x .0) (x .1) }
 
+  -- they do through a write
   pub grows-put : (H : Heap) (l : ℕ) (k v : Val) → Grows P H (putAt H l k v)
   grows-put H l k v = record { objects = λ j C fs e. let s = put-shape H l k v j in (s .0, s .1 ∙ ap (withTable (s .0)) e) }
 
+  -- and as cells are made
   pub grows-more : (H R : Heap) → Grows P H (H ++ R)
   grows-more H R = record { objects = λ l C fs e. (fs, getD-append-left H R noCell l (object-here H l e) ∙ e) }
 
+  -- values stay values
   pub fine-grows : {H H′ : Heap} {v : Val} → Grows P H H′ → Fine P H v → Fine P H′ v
   fine-grows g integer = integer
   fine-grows g text = text
   fine-grows g (object {l = l} {C = C} {fs = fs} e k) = object (g .objects l C fs e .1) k
 
+  -- and receivers receivers
   pub self-grows : {H H′ : Heap} {v : Val} → Grows P H H′ → Self P H v → Self P H′ v
   self-grows g (self {l = l} {C = C} {fs = fs} e m k) = self (g .objects l C fs e .1) m k
 
@@ -112,6 +120,7 @@ module _ {A : Type 0} (P : Classes A) where
   class-known text = refl
   class-known (object {l = l} e k) = ap (λ (x : Cell). known P (cellClass x)) e ∙ k
 
+  -- a cell is fine in a heap that grew
   cell-grows : {H H′ : Heap} (l : ℕ) {x : Cell} → Backed H → Grows P H H′ → KeepsContents H H′ → getD H l noCell ≡ x → FineCell P H l x → FineCell P H′ l x
   cell-grows l b g c e (aMap {t = t} h) = aMap (c .contents (suc l) t (b .behind l _ e) h .1)
   cell-grows l b g c e (anObject {fs = fs} m k a) = anObject m k (all-weaker _ _ (λ p. field-grows p g) fs a)
@@ -148,8 +157,13 @@ module _ {A : Type 0} (P : Classes A) where
       absurd (both-ways _ (m .0) (ap (λ (B : List ℕ). sameBytes B (codes "Map")) z))
   map-of (itsContents a) e = let z : _≡_ {A = ℕ} 0 1 = cc in absurd (omega arith)
 
+  -- a Map has its contents behind it
   pub map-parts : {H : Heap} (l : ℕ) {fs : Table} → FineHeap P H → getD H l noCell ≡ Cell.object (codes "Map") fs → MapParts H l fs
   map-parts {H} l h e = map-of (h .cells l (object-here H l e)) e
+
+  -- so its table says where its contents are
+  pub read-map : {H : Heap} (l : ℕ) {fs : Table} → FineHeap P H → getD H l noCell ≡ Cell.object (codes "Map") fs → store.read (tablesOf P H) (classCount P + l) contentsKey ≡ Some (Val.location (classCount P + suc l))
+  read-map {H} l h e = read-contents P H l (e ∙ ap (Cell.object (codes "Map")) (map-parts l h e .place))
 
   keys-of : {H : Heap} {l : ℕ} {x : Cell} {t : Table} → FineCell P H l x → x ≡ Cell.contents t → All (λ p. Fine P H (p .0) × Fine P H (p .1)) t
   keys-of (aMap h) e = let z : _≡_ {A = ℕ} 0 1 = cc in absurd (omega arith)
@@ -172,10 +186,11 @@ module _ {A : Type 0} (P : Classes A) where
   field-with v f (Val.identifier i, w) h = h
   field-with v f (Val.location l, w) h = h
 
-  -- what a field or a key holds is a value
+  -- what a field holds is a value
   pub field-fine : {H : Heap} (l : ℕ) {C : List ℕ} {fs : Table} (k : Val) {v : Val} → FineHeap P H → getD H l noCell ≡ Cell.object C fs → sameBytes C (codes "Map") ≡ false → look k fs ≡ Some v → Fine P H v
   field-fine {H} l {C} {fs} k {v} h e m g = look-all (Fine P H) fs k v (all-weaker _ _ field-value fs (object-parts l h e m .1)) g
 
+  -- so is what a key holds
   pub key-fine : {H : Heap} (l : ℕ) {t : Table} (k : Val) {v : Val} → FineHeap P H → l < length H → getD H l noCell ≡ Cell.contents t → look k t ≡ Some v → Fine P H v
   key-fine {H} l {t} k {v} h b e g = look-all (Fine P H) t k v (all-weaker _ _ (λ p q. q .1) t (contents-parts l h b e)) g
 
@@ -300,3 +315,14 @@ module _ {A : Type 0} (P : Classes A) where
         let z : codes "Object" ≡ codes "Map" = cc in
         absurd (both-ways _ refl (ap (λ (B : List ℕ). sameBytes B (codes "Map")) z))
     maps (suc (suc l)) fs e = let z : _≡_ {A = ℕ} 0 1 = cc in absurd (omega arith)
+
+  -- what was just made is a value
+  pub made-fine : (H : Heap) (C : List ℕ) → known P C ≡ true → Fine P (H ++ cellsOf C H) (Val.location (length H))
+  made-fine H C k = by (sameBytes C (codes "Map")) refl where
+    by : (b : Bool) → sameBytes C (codes "Map") ≡ b → Fine P (H ++ cellsOf C H) (Val.location (length H))
+    by true e = rw (sameBytes-decides C (codes "Map") .0 e) (object (getD-at H _ (Cell.contents [] ∷ []) noCell (length H) refl) refl)
+    by false e = rw (cells-object C H e) (object (new-object H C) k)
+
+  -- and can be a receiver of written methods if it is no Map
+  pub made-self : (H : Heap) (C : List ℕ) → known P C ≡ true → sameBytes C (codes "Map") ≡ false → Self P (H ++ cellsOf C H) (Val.location (length H))
+  made-self H C k m = rw (cells-object C H m) (self (new-object H C) m k)
