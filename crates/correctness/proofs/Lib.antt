@@ -25,3 +25,4 @@ pub mod Laying
 pub mod Orderly
 pub mod StartUp
 pub mod Objects
+pub mod News
