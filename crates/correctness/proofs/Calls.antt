@@ -120,20 +120,27 @@ module _ {A : Type 0} (P : Classes A) (L : Limits) (C : Program) (G : Table) (gl
             (unless WrongArgumentCount (eqb (length vs) (parameterCount f′)) s (enter (setting P L C G globals k again) again d f′ r vs s))
 
     -- a call: a frame is taken, or there is none
-    pub framed-then : {f p q t a : ℕ} {ns : List (List ℕ)} {me : Val} {S : List Frame} {R₀ : Registers} {H₀ : Heap} {R : Registers} (s : State) (r : Val) (vs : List Val) (x : List ℕ) (f′ : Callee A) (d : ℕ)
+    pub framed-back : {f p q t a : ℕ} {ns : List (List ℕ)} {me : Val} {S : List Frame} {R₀ : Registers} {H₀ : Heap} {R : Registers} (s : State) (r : Val) (vs : List Val) (x : List ℕ) (f′ : Callee A) (d : ℕ)
+        → Callable f′ → lookup P (classOf (s .heap) r) x ≡ Some f′
+        → Pre P L ns me d t S R₀ H₀ R s → Fine P (s .heap) r → All (Fine P (s .heap)) vs → t < registersPerFrame
+        → Has R a (Val.identifier (functionOf f′)) → Hold R t (block r vs) → Seg C f p (Instr.call a t (t + 1 + length vs) ∷ []) q
+        → Sim P C L G (suc k) (at f p R S (world P G s)) 21 (s .counted) f q S (Back P L R t s) (framed (setting P L C G globals k again) again d f′ r vs s)
+    framed-back {t = t} s r vs x f′ zero c e h w ws b i hs g =
+        let lm = length-map vs (shift P) in
+        let fr = h .frames in
+        ending refl (end-call (head g) i hs (omega arith) (c .function) (omega arith))
+    framed-back {t = t} s r vs x f′ (suc d) c e h w ws b i hs g =
+        let lm = length-map vs (shift P) in
+        let fr = h .frames in
+        loop-then (do-call (head g) i hs (omega arith) (c .function) (omega arith))
+        (rw (← last g) (c .sim s r vs x d (head g) b (omega arith) e w ws (h .proper .heap-fine) (h .proper .space)))
+
+    framed-then : {f p q t a : ℕ} {ns : List (List ℕ)} {me : Val} {S : List Frame} {R₀ : Registers} {H₀ : Heap} {R : Registers} (s : State) (r : Val) (vs : List Val) (x : List ℕ) (f′ : Callee A) (d : ℕ)
         → Callable f′ → lookup P (classOf (s .heap) r) x ≡ Some f′
         → Pre P L ns me d t S R₀ H₀ R s → Fine P (s .heap) r → All (Fine P (s .heap)) vs → t < registersPerFrame
         → Has R a (Val.identifier (functionOf f′)) → Hold R t (block r vs) → Seg C f p (Instr.call a t (t + 1 + length vs) ∷ []) q
         → Sim P C L G (suc k) (at f p R S (world P G s)) 21 (s .counted) f q S (Post P L ns me t R₀ H₀) (framed (setting P L C G globals k again) again d f′ r vs s)
-    framed-then {t = t} s r vs x f′ zero c e h w ws b i hs g =
-        let lm = length-map vs (shift P) in
-        let fr = h .frames in
-        ending refl (end-call (head g) i hs (omega arith) (c .function) (omega arith))
-    framed-then {t = t} s r vs x f′ (suc d) c e h w ws b i hs g =
-        let lm = length-map vs (shift P) in
-        let fr = h .frames in
-        loop-then (do-call (head g) i hs (omega arith) (c .function) (omega arith))
-        (rw (← last g) (weaken (λ v s′ R′ φ. back-post P L h φ) (c .sim s r vs x d (head g) b (omega arith) e w ws (h .proper .heap-fine) (h .proper .space))))
+    framed-then s r vs x f′ d c e h w ws b i hs g = weaken (λ v s′ R′ φ. back-post P L h φ) (framed-back s r vs x f′ d c e h w ws b i hs g)
 
     abbrev Tested : ℕ → ℕ → List ℕ → ℕ → List Instr
     Tested t n x m =

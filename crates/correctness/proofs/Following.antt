@@ -77,3 +77,16 @@ pub weaken : {A X : Type 0} {P : Classes A} {C : Program} {L : Limits} {G : Tabl
 weaken κ (sval j R h b φ) = sval j R h b (κ _ _ _ φ)
 weaken κ (send j h b e) = send j h b e
 weaken κ (sout j m′ h b) = sout j m′ h b
+
+-- the same, with steps left to spend on the part
+pub bind-with : {A X Y : Type 0} {P : Classes A} {C : Program} {L : Limits} {G : Table} {f q f′ q′ : ℕ} {S S′ : List Frame} {Φ : X → State → Registers → Type 0} {Ψ : Y → State → Registers → Type 0} {k a c d n : ℕ} {m : machine.State} {x : Res X} {g : X → State → Res Y}
+    → a + c ≤ d → Sim P C L G k m a n f q S Φ x → ((v : X) (s : State) (R : Registers) → Φ v s R → Sim P C L G k (at f q R S (world P G s)) c (s .counted) f′ q′ S′ Ψ (g v s)) → Sim P C L G k m d n f′ q′ S′ Ψ (x >>= g)
+bind-with l (sval {v = v} {s = s} j R h b φ) κ = after j h (omega arith) (omega arith) (κ v s R φ)
+bind-with l (send j h b e) κ = send j h (omega arith) e
+bind-with l (sout j m′ h b) κ = sout j m′ h b
+
+pub finish-with : {A X : Type 0} {P : Classes A} {C : Program} {L : Limits} {G : Table} {f q f′ q′ : ℕ} {S S′ : List Frame} {Φ Ψ : X → State → Registers → Type 0} {k a c d n : ℕ} {m : machine.State} {x : Res X}
+    → a + c ≤ d → Sim P C L G k m a n f q S Φ x → ((v : X) (s : State) (R : Registers) → Φ v s R → Sim P C L G k (at f q R S (world P G s)) c (s .counted) f′ q′ S′ Ψ (val v s)) → Sim P C L G k m d n f′ q′ S′ Ψ x
+finish-with l (sval {v = v} {s = s} j R h b φ) κ = after j h (omega arith) (omega arith) (κ v s R φ)
+finish-with l (send j h b e) κ = send j h (omega arith) e
+finish-with l (sout j m′ h b) κ = sout j m′ h b

@@ -29,7 +29,7 @@ use Rattle.grammar.specs.Measure.{count}
 use Rattle.rube.specs.Classes.{Callee, Classes, classNames, classCount, known, lookup, parameterCount}
 use Rattle.rube.specs.Heap as heap
 use Rattle.rube.specs.Heap.{Heap, Cell, noCell, classOf, fits}
-use Rattle.rube.specs.Evaluation.{State, Res, val, end, unless, withHeap}
+use Rattle.rube.specs.Evaluation.{State, Res, val, end, unless, withHeap, _>>=_}
 use Rattle.rube.specs.Evaluation as evaluation
 use Rattle.rube.specs.Meaning.{Eval, cellsOf, framed, initialized, eval, evals}
 use Rattle.rube.specs.Meaning as meaning
@@ -41,15 +41,16 @@ use Rattle.correctness.specs.Fitting.{Fit, Fits}
 use Rattle.correctness.proofs.Relation.{shift, tablesOf, world, Globals, Fine, integer, text, object, Sound, Proper, Grows}
 use Rattle.correctness.proofs.Segments.{Seg, Split, split, seg-end, head, tail, last}
 use Rattle.correctness.proofs.Segments as seg
-use Rattle.correctness.proofs.Following.{Sim, bind, finish, count-then, step-then, slack, done, ending}
+use Rattle.correctness.proofs.Following.{Sim, bind, finish, bind-with, finish-with, count-then, step-then, slack, done, ending}
 use Rattle.correctness.proofs.Registers.{has-written, has-other, hold-other, hold-below, keep-same, keep-then}
-use Rattle.correctness.proofs.Returning.{fine-grows, grows-then, grows-same, Back}
-use Rattle.correctness.proofs.Judged.{Pre, Post, Posts, Goods, first, answer, scratch}
+use Rattle.correctness.proofs.Returning.{fine-grows, grows-then, grows-same, Back, back-post}
+use Rattle.correctness.proofs.Judged.{Pre, Post, Posts, Goods, first, next, answer, scratch}
 use Rattle.correctness.proofs.Tabled.{make-object, make-map, length-tables, length-made, cells-object, new-table-here, old-table-here}
 use Rattle.correctness.proofs.Heaps.{grows-more, sound-make, made-fine}
 use Rattle.correctness.proofs.Space.{fits-after-make, Makes, bothFit, noTable, noPair, MakesMap, firstFails, firstFits, makes-object, makes-map}
+use Rattle.correctness.proofs.Classed.{two}
 use Rattle.correctness.proofs.Forms.{setting, Ok}
-use Rattle.correctness.proofs.Calls.{Oks, Callables, block, framed-then}
+use Rattle.correctness.proofs.Calls.{Oks, Callable, Callables, block, framed-back}
 use Rattle.correctness.proofs.Objects.{grown-proper}
 
 module _ {A : Type 0} (P : Classes A) (L : Limits) (C : Program) (G : Table) (globals : Globals P G) where
@@ -253,3 +254,92 @@ module _ {A : Type 0} (P : Classes A) (L : Limits) (C : Program) (G : Table) (gl
       → known P D ≡ true → suc (suc t) + length ws ≤ z → z + 1 < registersPerFrame → Pre P L ns me d t S R₀ H₀ R s → Hold R (suc (suc t)) ws → Seg C f p (code.make P D (suc t) z) q
       → Sim P C L G k (at f p R S (world P G s)) 100 (s .counted) f q S (Born D ns me d t S R₀ H₀ ws s) (meaning.make within D s)
   make-then s D kn zl zb h hs g = make-by s D (sameBytes D (codes "Integer")) (sameBytes D (codes "String")) (sameBytes D (codes "Map")) refl refl refl kn zl zb h hs g
+
+  module _ (k : ℕ) (again : Eval A) where
+    all-fine : {H H′ : Heap} (vs : List Val) → Grows P H H′ → All (Fine P H) vs → All (Fine P H′) vs
+    all-fine [] g a = tt
+    all-fine (v ∷ vs) g a = (fine-grows P L g (a .0), all-fine vs g (a .1))
+
+    -- a wrong number of arguments is known when the code is laid
+    wrong-then : {f p q t : ℕ} {S : List Frame} {R : Registers} {Φ : Val → State → Registers → Type 0} (s : State) → t < registersPerFrame → Seg C f p (haltWith t 5) q
+        → Sim P C L G (suc k) (at f p R S (world P G s)) 128 (s .counted) f q S Φ (end WrongArgumentCount s)
+    wrong-then {t = t} {R = R} s b g = step-then (do-const (head g) b) (ending refl (end-halt (head (tail g)) (has-written R t (number 5))))
+
+    -- without initialize there are no arguments
+    plain-then : {f p q t d : ℕ} {ns : List (List ℕ)} {me : Val} {S : List Frame} {R₀ : Registers} {H₀ : Heap} {R : Registers} (s : State) (D : List ℕ) (vs : List Val) (b : Bool) → eqb (length vs) 0 ≡ b
+        → known P D ≡ true → Pre P L ns me d t S R₀ H₀ R s → t + 4 < registersPerFrame
+        → Seg C f p (cond b (code.make P D (suc t) (t + 2) ++ (Instr.mov t (suc t) ∷ [])) (haltWith t 5)) q
+        → Sim P C L G (suc k) (at f p R S (world P G s)) 128 (s .counted) f q S (Post P L ns me t R₀ H₀) (unless WrongArgumentCount b s (meaning.make within D s))
+    plain-then s D vs false e kn h u g = wrong-then s (omega arith) g
+    plain-then {t = t} s D vs true e kn h u g =
+        let y = split (code.make P D (suc t) (t + 2)) _ g in
+        finish-with {c = 1} (omega arith) (make-then {ws = []} s D kn (omega arith) (omega arith) h none (y .left))
+        (λ v s′ R′ β. step-then (do-mov (head (y .right)) (omega arith) (β .object-in)) (done (last (y .right)) (answer P L (β .pre) (β .fine))))
+
+    -- the object's initialize is entered, and what it answers is dropped
+    initialize-then : {f p q t d : ℕ} {ns : List (List ℕ)} {me : Val} {S : List Frame} {R₀ : Registers} {H₀ : Heap} {R : Registers} (s : State) (D : List ℕ) (vs : List Val) (f′ : Callee A) (b : Bool)
+        → Callable P L C G globals k again f′ → lookup P D (codes "initialize") ≡ Some f′
+        → known P D ≡ true → Pre P L ns me d t S R₀ H₀ R s → All (Fine P (s .heap)) vs → t + length vs + 4 < registersPerFrame → Hold R (suc (suc t)) (map (shift P) vs)
+        → Seg C f p (cond b (code.make P D (suc t) (t + 2 + length vs) ++ (initialize P f′ t (length vs) ++ (Instr.mov t (suc t) ∷ []))) (haltWith t 5)) q
+        → Sim P C L G (suc k) (at f p R S (world P G s)) 128 (s .counted) f q S (Post P L ns me t R₀ H₀)
+          (unless WrongArgumentCount b s (meaning.make within D s >>= (λ r s′. framed (setting P L C G globals k again) again d f′ r vs s′ >>= (λ _ s″. val r s″))))
+    initialize-then s D vs f′ false c e kn h ws u hs g = wrong-then s (omega arith) g
+    initialize-then {t = t} {d = d} s D vs f′ true c e kn h ws u hs g =
+        let y = split (code.make P D (suc t) (t + 2 + length vs)) _ g in
+        let lm = length-map vs (shift P) in
+        let fn = Val.identifier (functionOf f′) in
+        bind-with {c = 28} (omega arith) (make-then s D kn (omega arith) (omega arith) h hs (y .left))
+        (λ r s′ R′ β.
+          let found : lookup P (classOf (s′ .heap) r) (codes "initialize") ≡ Some f′ = rw (β .class) e in
+          let R₁ = write R′ t (number (length vs)) in
+          let R₂ = write R₁ (t + 2 + length vs) fn in
+          let h₂ = scratch P L (t + 2 + length vs) fn (omega arith) (scratch P L t (number (length vs)) (omega arith) (β .pre)) in
+          let o₂ = has-other R₁ (t + 2 + length vs) (suc t) fn (λ z. omega arith) (has-other R′ t (suc t) (number (length vs)) (λ z. omega arith) (β .object-in)) in
+          let n₂ = has-other R₁ (t + 2 + length vs) t fn (λ z. omega arith) (has-written R′ t (number (length vs))) in
+          let hs₂ = hold-other R₁ (t + 2 + length vs) fn (omega arith) (hold-below R′ t (number (length vs)) (omega arith) (β .arguments)) in
+          let w = split (Instr.const t (number (length vs)) ∷ Instr.const (t + 2 + length vs) fn ∷ Instr.call (t + 2 + length vs) t (t + 1 + length vs) ∷ []) _ (y .right) in
+          step-then (do-const (head (w .left)) (omega arith))
+          (step-then (do-const (head (tail (w .left))) (omega arith))
+          (bind-with {c = 1} (omega arith)
+            (framed-back P L C G globals k again s′ r vs (codes "initialize") f′ d c found h₂ (β .fine) (all-fine vs (β .grows) ws) (omega arith) (has-written R₁ (t + 2 + length vs) fn) (more n₂ (more o₂ hs₂)) (tail (tail (w .left))))
+            (λ v s″ R″ back.
+              let o₃ : Has R″ (suc t) (shift P r) = rw (back .is) (has-other R₂ t (suc t) (shift P v) (λ z. omega arith) o₂) in
+              step-then (do-mov (head (w .right)) (omega arith) o₃)
+              (done (last (w .right)) (answer P L (next P L h₂ (back-post P L h₂ back)) (fine-grows P L (back .grows) (β .fine))))))))
+
+    create-then : {f p q t d : ℕ} {ns : List (List ℕ)} {me : Val} {S : List Frame} {R₀ : Registers} {H₀ : Heap} {R : Registers} (s : State) (D : List ℕ) (vs : List Val) (o : Option (Callee A))
+        → ((f′ : Callee A) → o ≡ Some f′ → Callable P L C G globals k again f′) → lookup P D (codes "initialize") ≡ o → known P D ≡ true
+        → Pre P L ns me d t S R₀ H₀ R s → All (Fine P (s .heap)) vs → t + length vs + 4 < registersPerFrame → Hold R (suc (suc t)) (map (shift P) vs)
+        → Seg C f p (create P o D (length vs) t) q
+        → Sim P C L G (suc k) (at f p R S (world P G s)) 128 (s .counted) f q S (Post P L ns me t R₀ H₀) (initialized (setting P L C G globals k again) again d o D vs s)
+    create-then s D vs None cs e kn h ws u hs g = plain-then s D vs _ refl kn h (omega arith) g
+    create-then s D vs (Some f′) cs e kn h ws u hs g = initialize-then s D vs f′ (eqb (length vs) (parameterCount f′)) (cs f′ refl) e kn h ws u hs g
+
+    new-then : {f p q t d : ℕ} {ns : List (List ℕ)} {me : Val} {S : List Frame} {R₀ : Registers} {H₀ : Heap} {R : Registers} (s : State) (D : List ℕ) (xs : Args A)
+        → Callables P L C G globals k again → Oks P L C G globals k again xs → (b c : Bool) → known P D ≡ b
+        → Pre P L ns me d t S R₀ H₀ R s → t + count xs + 4 < registersPerFrame → Fits ns xs (t + 2)
+        → Seg C f p (cond b (cond c (haltWith t 3) (compiles P ns xs (t + 2) ++ create P (lookup P D (codes "initialize")) D (count xs) t)) (haltWith t 2)) q
+        → Sim P C L G (suc k) (at f p R S (world P G s)) 128 (s .counted) f q S (Post P L ns me t R₀ H₀)
+          (unless NoSuchClass b s (unless CannotInstantiateBot (not c) s (evals (setting P L C G globals k again) again me d xs s >>= (λ vs s′. initialized (setting P L C G globals k again) again d (lookup P D (codes "initialize")) D vs s′))))
+    new-then {t = t} {R = R} s D xs cs gxs false c e h u b g = step-then (do-const (head g) (omega arith)) (ending refl (end-halt (head (tail g)) (has-written R t (number 2))))
+    new-then {t = t} {R = R} s D xs cs gxs true true e h u b g = step-then (do-const (head g) (omega arith)) (ending refl (end-halt (head (tail g)) (has-written R t (number 3))))
+    new-then {t = t} {ns = ns} s D xs cs gxs true false e h u b g =
+        let y = split (compiles P ns xs (t + 2)) _ g in
+        let room = h .room in
+        bind (gxs .sim (record { room = omega arith; frames = h .frames; stand = h .stand; keep = keep-same; proper = h .proper; grows = grows-same P L }) b (y .left))
+        (λ vs s′ R′ ψ.
+          let many = ψ .many in
+          create-then s′ D vs (lookup P D (codes "initialize")) (λ f′ z. cs D (codes "initialize") f′ z) refl e
+          (record {
+            room = room;
+            frames = h .frames;
+            stand = ψ .stand;
+            keep = keep-then (omega arith) (h .keep) (ψ .keep);
+            proper = ψ .proper;
+            grows = grows-then P L (h .grows) (ψ .grows);
+          })
+          (ψ .fine) (omega arith) (rw (two t) at (ψ .got)) (rw many (y .right)))
+
+    pub new-good : Callables P L C G globals k again → (a : A) (D : List ℕ) (xs : Args A) → Oks P L C G globals k again xs → Ok P L C G globals k again (Expr.new a D xs)
+    unfolding eval compile
+    new-good cs a D xs gxs = record { sim = λ {s = s} h b g. count-then (new-then (evaluation.count s) D xs cs gxs (known P D) (sameBytes D (codes "Bot")) refl (first P L h) (b .0) (b .1) g) }
