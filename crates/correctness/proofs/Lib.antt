@@ -10,3 +10,5 @@ pub mod Returning
 pub mod Classed
 pub mod Fields
 pub mod Calls
+pub mod Tests
+pub mod Operations

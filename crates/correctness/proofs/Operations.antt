@@ -1,0 +1,244 @@
+-- The functions of the built-in operations do what the operations mean. Assumes nothing.
+use mathlib.Core.Path.{_≡_, refl, sym, ap, subst, _∙_}
+use mathlib.Core.Logic.{_≢_}
+use mathlib.Core.Bool.{Bool, true, false, cond}
+use mathlib.Core.List.{List, [], _∷_, _++_, map}
+use Prim.Native.Nat.{ℕ, zero, suc, _+_, _-_, _<_, _≤_}
+use native.Mathlib.Omega.{arith}
+use lib.Chars.{codes}
+use lib.IntN.{ℤ, pos}
+use lib.ListN.{length, getD}
+use Rattle.std.specs.Written.{signed}
+use Rattle.std.specs.declared.option.Option.{Option}
+use Rattle.std.specs.declared.option.Option.the-variants.{Some, None}
+use Rattle.std.specs.declared.result.Result.{Result}
+use Rattle.std.specs.declared.result.Result.the-variants.{Ok, Err}
+use Rattle.std.proofs.shelf.Tests.{false≢true}
+use Rattle.store.specs.Val.{Val, equalVal}
+use Rattle.store.specs.Tables.{Table}
+use Rattle.machine.specs.declared.arith.Op.{Op}
+use Rattle.machine.specs.declared.builtin.Builtin.{Builtin}
+use Rattle.machine.specs.declared.builtin.Builtin.the-variants as own
+use Rattle.machine.specs.declared.ending.Ending.{Ending}
+use Rattle.machine.specs.declared.ending.Ending.the-variants.{WrongArgumentKind}
+use Rattle.machine.specs.declared.instruction.Kind.{Kind}
+use Rattle.machine.specs.Limits.{Limits, registersPerFrame}
+use Rattle.machine.specs.Outcome.{Outcome}
+use Rattle.machine.specs.Arith as arithmetic
+use Rattle.machine.specs.Effects.{Effects, charge, print}
+use Rattle.machine.specs.Builtin.{builtinNumber, builtinOf, integerIn, stringIn, shown, apply}
+use Rattle.machine.specs.Instr.{Instr, Program}
+use Rattle.machine.specs.Operands.{truth, isOf}
+use Rattle.machine.specs.State as machine
+use Rattle.machine.specs.State.{Registers, Frame, frame, at, write}
+use Rattle.machine.proofs.Judge.{Has, Hold, none, more, Fetch}
+use Rattle.machine.proofs.Exec.{do-const, do-mov, do-arith, end-arith, do-eq, do-isKind, do-builtin, end-builtin, do-rdGlob, do-ret}
+use Rattle.rube.specs.declared.builtin.Operation.{Operation}
+use Rattle.rube.specs.declared.builtin.Operation.the-variants.{
+  Equal,
+  ClassName,
+  PrintClassName,
+  Itself,
+  Decimal,
+  PrintValue,
+  NilText,
+  PrintNil,
+  Concat,
+  Length,
+  Arith,
+  Find,
+  Insert,
+  Has as HasKey,
+}
+use Rattle.rube.specs.Classes.{Classes}
+use Rattle.rube.specs.Heap.{Heap, Setting, nil, fits}
+use Rattle.rube.specs.Heap as heap
+use Rattle.rube.specs.Evaluation.{State, Res, val, end, _>>=_, withEffects, outcome, effect}
+use Rattle.rube.specs.Methods.{makeString, printText, perform}
+use Rattle.compiler.specs.Pieces.{number, require}
+use Rattle.compiler.specs.Builtins.{ask, printFive, operationCode}
+use Rattle.correctness.proofs.Relation.{shift, world, Globals, Fine, integer, text, object, FineHeap, Grows}
+use Rattle.correctness.proofs.Segments.{Seg, Split, split, head, tail, last}
+use Rattle.correctness.proofs.Following.{Sim, step-then, slack, done, ending}
+use Rattle.correctness.proofs.Registers.{has-written, has-other}
+use Rattle.correctness.proofs.Returning.{grows-same, Back}
+use Rattle.correctness.proofs.Values.{equal-shift}
+use Rattle.correctness.proofs.Forms.{nil-fine}
+use Rattle.correctness.proofs.Fields.{truth-fine}
+use Rattle.correctness.proofs.Tests.{require-then, truth-then}
+
+-- the machine's own functions are found by their numbers
+own-found : (b : Builtin) → builtinOf (builtinNumber b) ≡ Some b
+own-found own.PrintValue = refl
+own-found own.ToS = refl
+own-found own.Concat = refl
+own-found own.Length = refl
+
+module _ {A : Type 0} (P : Classes A) (L : Limits) (C : Program) (G : Table) (globals : Globals P G) where
+  abbrev setting : Setting A
+  setting = record { classes = P; limits = L }
+
+  -- a caller waits at its call, with the registers Rc; the state is s
+  module _ (k : ℕ) (Rc : Registers) (S : List Frame) {f pc a first final : ℕ} (call : Fetch C f pc (Instr.call a first final)) (below : first < registersPerFrame) (s : State) (heap-fine : FineHeap P (s .heap)) (space : fits (record { classes = P; limits = L }) (s .heap) 0 0 ≡ true) where
+    abbrev From : ℕ → ℕ → Registers → State → machine.State
+    From g p R s′ = at g p R (frame f pc Rc ∷ S) (world P G s′)
+
+    abbrev Answers : machine.State → ℕ → Res Val → Type 0
+    Answers m c x = Sim P C L G k m c (s .counted) f (suc pc) S (Back P L Rc first s) x
+
+    -- an answer is given to the caller
+    ret-then : {c g p a : ℕ} {R : Registers} (o : Effects) (v : Val) → Fetch C g p (Instr.ret a) → Has R a (shift P v) → Fine P (s .heap) v → Answers (From g p R (withEffects o s)) (suc c) (val v (withEffects o s))
+    ret-then o v h i w =
+        step-then (do-ret h i refl call below)
+        (done refl (record { is = refl; fine = w; heap-fine = heap-fine; grows = grows-same P L; space = space; locals = refl }))
+
+    itself-good : {g p q : ℕ} {R : Registers} (r v w : Val) → Seg C g p (operationCode Itself) q → Has R 1 (shift P r) → Fine P (s .heap) r → Answers (From g p R s) 40 (perform setting Itself r v w s)
+    unfolding operationCode perform
+    itself-good r v w e h i = ret-then (s .effects) r (head e) h i
+
+    equal-good : {g p q : ℕ} {R : Registers} (r v w : Val) → Seg C g p (operationCode Equal) q → Has R 1 (shift P r) → Has R 2 (shift P v) → Answers (From g p R s) 40 (perform setting Equal r v w s)
+    unfolding operationCode perform
+    equal-good {R = R} r v w e h i =
+        let t = equalVal r v in
+        let y = split _ (Instr.ret 4 ∷ []) (tail e) in
+        step-then (do-eq (head e) (omega arith) h i)
+        (rw (equal-shift P r v)
+        (truth-then P L C G globals s t (omega arith) (y .left) (has-written R 4 (truth t))
+        (ret-then (s .effects) (heap.truth t) (head (y .right)) (has-written (write R 4 (truth t)) 4 (shift P (heap.truth t))) (truth-fine P L C G globals t (nil-fine P L C G globals heap-fine)))))
+
+    nilText-good : {g p q : ℕ} {R : Registers} (r v w : Val) → Seg C g p (operationCode NilText) q → Answers (From g p R s) 40 (perform setting NilText r v w s)
+    unfolding operationCode perform
+    nilText-good {R = R} r v w e =
+        step-then (do-const (head e) (omega arith))
+        (ret-then (s .effects) (Val.string (codes "nil")) (head (tail e)) (has-written R 5 (Val.string (codes "nil"))) text)
+
+    -- a function of the machine is asked, on one register
+    ask-then : {c g p q r : ℕ} {R : Registers} {x : Res Val} (b : Builtin) (v u : Val) (o : Effects) → r ≢ 4 → Seg C g p (ask b r) q → Has R r v → apply b (v ∷ []) (s .effects) ≡ Ok (u, o)
+        → Answers (From g q (write (write R 4 (Val.identifier (builtinNumber b))) r u) (withEffects o s)) c x → Answers (From g p R s) (suc (suc c)) x
+    ask-then {r = r} {R = R} b v u o n e h a x =
+        let i = Val.identifier (builtinNumber b) in
+        step-then (do-const (head e) (omega arith))
+        (step-then (do-builtin (head (tail e)) (has-written R 4 i) (more (has-other R 4 r i (λ z. n (sym z)) h) none) (omega arith) (own-found b) a)
+        (rw (last (tail e)) x))
+
+    ask-ends : {c g p q r : ℕ} {R : Registers} (b : Builtin) (v : Val) (z : Ending) → r ≢ 4 → Seg C g p (ask b r) q → Has R r v → apply b (v ∷ []) (s .effects) ≡ Err z → Answers (From g p R s) (suc (suc c)) (end z s)
+    ask-ends {r = r} {R = R} b v z n e h a =
+        let i = Val.identifier (builtinNumber b) in
+        step-then (do-const (head e) (omega arith))
+        (ending (end-builtin (head (tail e)) (has-written R 4 i) (more (has-other R 4 r i (λ y. n (sym y)) h) none) (omega arith) (own-found b) a))
+
+    -- what register 5 holds is printed
+    print-then : {g p q : ℕ} {R : Registers} (t : List ℕ) (v : Val) (y : Outcome Effects) → print t (s .effects) ≡ y → shown v ≡ Ok t → Seg C g p printFive q → Has R 5 v → Answers (From g p R s) 30 (effect y s >>= (λ _ s′. val nil s′))
+    unfolding apply
+    print-then {R = R} t v (Ok o) d a e h =
+        let z = split (ask own.PrintValue 5) _ e in
+        let R₂ = write (write R 4 (Val.identifier (builtinNumber own.PrintValue))) 5 (Val.int (pos 0)) in
+        ask-then own.PrintValue v (Val.int (pos 0)) o (λ n. omega arith) (z .left) h (rw (a, d))
+        (step-then (do-rdGlob (head (z .right)) (omega arith) (globals .nils))
+        (ret-then o nil (head (tail (z .right))) (has-written R₂ 5 (shift P nil)) (nil-fine P L C G globals heap-fine)))
+    print-then t v (Err x) d a e h = ask-ends own.PrintValue v x (λ n. omega arith) (split (ask own.PrintValue 5) _ e .left) h (rw (a, d))
+
+    printNil-good : {g p q : ℕ} {R : Registers} (r v w : Val) → Seg C g p (operationCode PrintNil) q → Answers (From g p R s) 40 (perform setting PrintNil r v w s)
+    unfolding operationCode perform
+    printNil-good {R = R} r v w e =
+        let x = Val.string (codes "nil") in
+        step-then (do-const (head e) (omega arith))
+        (slack 39 (omega arith) (print-then (codes "nil") x _ refl refl (tail e) (has-written R 5 x)))
+
+    printValue-good : {g p q : ℕ} {R : Registers} (t : List ℕ) (r v w : Val) → shown r ≡ Ok t → shown (shift P r) ≡ Ok t → Seg C g p (operationCode PrintValue) q → Has R 1 (shift P r) → Answers (From g p R s) 40 (perform setting PrintValue r v w s)
+    unfolding operationCode perform
+    printValue-good {R = R} t r v w d d′ e h =
+        rw d
+        (step-then (do-mov (head e) (omega arith) h)
+        (slack 39 (omega arith) (print-then t (shift P r) _ refl d′ (tail e) (has-written R 5 (shift P r)))))
+
+    -- a string is made and answered
+    made-then : {g p q : ℕ} {R : Registers} (n : ℤ) (y : Outcome Effects) → charge (length (signed n)) (s .effects) ≡ y → Seg C g p (ask own.ToS 5 ++ (Instr.ret 5 ∷ [])) q → Has R 5 (Val.int n) → Answers (From g p R s) 30 (effect y s >>= (λ _ s′. val (Val.string (signed n)) s′))
+    unfolding apply
+    made-then {R = R} n (Ok o) d e h =
+        let z = split (ask own.ToS 5) _ e in
+        let i = Val.identifier (builtinNumber own.ToS) in
+        let x = Val.string (signed n) in
+        ask-then own.ToS (Val.int n) x o (λ m. omega arith) (z .left) h (rw d)
+        (ret-then o x (head (z .right)) (has-written (write R 4 i) 5 x) text)
+    made-then n (Err x) d e h = ask-ends own.ToS (Val.int n) x (λ m. omega arith) (split (ask own.ToS 5) _ e .left) h (rw d)
+
+    decimal-good : {g p q : ℕ} {R : Registers} (n : ℤ) (v w : Val) → Seg C g p (operationCode Decimal) q → Has R 1 (Val.int n) → Answers (From g p R s) 40 (perform setting Decimal (Val.int n) v w s)
+    unfolding operationCode perform
+    decimal-good {R = R} n v w e h =
+        step-then (do-mov (head e) (omega arith) h)
+        (slack 39 (omega arith) (made-then n _ refl (tail e) (has-written R 5 (Val.int n))))
+
+    length-good : {g p q : ℕ} {R : Registers} (t : List ℕ) (v w : Val) → Seg C g p (operationCode Length) q → Has R 1 (Val.string t) → Answers (From g p R s) 40 (perform setting Length (Val.string t) v w s)
+    unfolding operationCode perform apply
+    length-good {R = R} t v w e h =
+        let z = split (ask own.Length 5) _ (tail e) in
+        let i = Val.identifier (builtinNumber own.Length) in
+        let R₁ = write R 5 (Val.string t) in
+        step-then (do-mov (head e) (omega arith) h)
+        (ask-then own.Length (Val.string t) (number (length t)) (s .effects) (λ n. omega arith) (z .left) (has-written R 5 (Val.string t)) refl
+        (ret-then (s .effects) (number (length t)) (head (z .right)) (has-written (write R₁ 4 i) 5 (number (length t))) integer))
+
+    -- an argument of another kind
+    wrong-kind : {g p q : ℕ} {R : Registers} {κ : Kind} {v : Val} {code : List Instr} → Seg C g p (Instr.isKind κ 4 2 ∷ (require 4 6 ++ code)) q → Has R 2 v → isOf κ v ≡ false → Answers (From g p R s) 40 (end WrongArgumentKind s)
+    wrong-kind {R = R} {code = code} e i z =
+        step-then (do-isKind (head e) (omega arith) i)
+        (rw z
+        (require-then P L C G globals {x = val nil s} s false (omega arith) (split (require 4 6) code (tail e) .left) (has-written R 4 (truth false)) (λ b. absurd (false≢true b))))
+
+    -- the sum, difference, product or quotient of two integers
+    computed-then : {g p q : ℕ} {R : Registers} (o : Op) (m n : ℤ) (y : Outcome ℤ) → arithmetic.arith o m n ≡ y → Seg C g p (Instr.arith o 4 1 2 ∷ Instr.ret 4 ∷ []) q → Has R 1 (Val.int m) → Has R 2 (Val.int n) → Answers (From g p R s) 30 (outcome y s >>= (λ z. val (Val.int z)))
+    computed-then {R = R} o m n (Ok z) d e h i =
+        step-then (do-arith (head e) (omega arith) h i d) (ret-then (s .effects) (Val.int z) (head (tail e)) (has-written R 4 (Val.int z)) integer)
+    computed-then o m n (Err x) d e h i = ending (end-arith (head e) (omega arith) h i d)
+
+    arith-good : {g p q : ℕ} {R : Registers} (o : Op) (m : ℤ) (v w : Val) → Seg C g p (operationCode (Arith o)) q → Has R 1 (Val.int m) → Has R 2 (shift P v) → Fine P (s .heap) v → Answers (From g p R s) 40 (perform setting (Arith o) (Val.int m) v w s)
+    unfolding operationCode perform
+    arith-good {R = R} o m (Val.int n) w e h i integer =
+        let y = split (require 4 6) _ (tail e) in
+        step-then (do-isKind (head e) (omega arith) i)
+        (require-then P L C G globals s true (omega arith) (y .left) (has-written R 4 (truth true))
+        (λ _. slack 37 (omega arith)
+        (computed-then o m n _ refl (y .right) (has-other R 4 1 (truth true) (λ z. omega arith) h) (has-other R 4 2 (truth true) (λ z. omega arith) i))))
+    arith-good {R = R} o m (Val.string t) w e h i text = wrong-kind e i refl
+    arith-good {R = R} o m (Val.location l) w e h i (object z x) = wrong-kind e i refl
+    arith-good o m (Val.identifier j) w e h i x = elim x [ ]
+
+    -- two strings are joined
+    joined-then : {g p q : ℕ} {R : Registers} (t u : List ℕ) (y : Outcome Effects) → charge (length (t ++ u)) (s .effects) ≡ y
+        → Seg C g p (Instr.const 4 (Val.identifier (builtinNumber own.Concat)) ∷ Instr.call 4 5 6 ∷ Instr.ret 5 ∷ []) q → Has R 5 (Val.string t) → Has R 6 (Val.string u)
+        → Answers (From g p R s) 30 (effect y s >>= (λ _ s′. val (Val.string (t ++ u)) s′))
+    unfolding apply
+    joined-then {R = R} t u (Ok o) d e h i =
+        let f₄ = Val.identifier (builtinNumber own.Concat) in
+        let R₁ = write R 4 f₄ in
+        let x = Val.string (t ++ u) in
+        let both = more (has-other R 4 5 f₄ (λ z. omega arith) h) (more (has-other R 4 6 f₄ (λ z. omega arith) i) none) in
+        step-then (do-const (head e) (omega arith))
+        (step-then (do-builtin (head (tail e)) (has-written R 4 f₄) both (omega arith) (own-found own.Concat) (rw d))
+        (ret-then o x (head (tail (tail e))) (has-written R₁ 5 x) text))
+    joined-then {R = R} t u (Err z) d e h i =
+        let f₄ = Val.identifier (builtinNumber own.Concat) in
+        let both = more (has-other R 4 5 f₄ (λ z. omega arith) h) (more (has-other R 4 6 f₄ (λ z. omega arith) i) none) in
+        step-then (do-const (head e) (omega arith))
+        (ending (end-builtin (head (tail e)) (has-written R 4 f₄) both (omega arith) (own-found own.Concat) (rw d)))
+
+    concat-good : {g p q : ℕ} {R : Registers} (t : List ℕ) (v w : Val) → Seg C g p (operationCode Concat) q → Has R 1 (Val.string t) → Has R 2 (shift P v) → Fine P (s .heap) v → Answers (From g p R s) 40 (perform setting Concat (Val.string t) v w s)
+    unfolding operationCode perform
+    concat-good {R = R} t (Val.string u) w e h i text =
+        let y = split (require 4 6) _ (tail e) in
+        let R₁ = write R 4 (truth true) in
+        let R₂ = write R₁ 5 (Val.string t) in
+        let R₃ = write R₂ 6 (Val.string u) in
+        let h₁ = has-other R 4 1 (truth true) (λ z. omega arith) h in
+        let i₁ = has-other R 4 2 (truth true) (λ z. omega arith) i in
+        let i₂ = has-other R₁ 5 2 (Val.string t) (λ z. omega arith) i₁ in
+        let t₃ = has-other R₂ 6 5 (Val.string u) (λ z. omega arith) (has-written R₁ 5 (Val.string t)) in
+        step-then (do-isKind (head e) (omega arith) i)
+        (require-then P L C G globals s true (omega arith) (y .left) (has-written R 4 (truth true))
+        (λ _. step-then (do-mov (head (y .right)) (omega arith) h₁)
+        (step-then (do-mov (head (tail (y .right))) (omega arith) i₂)
+        (slack 35 (omega arith) (joined-then t u _ refl (tail (tail (y .right))) t₃ (has-written R₂ 6 (Val.string u)))))))
+    concat-good t (Val.int n) w e h i integer = wrong-kind e i refl
+    concat-good t (Val.location l) w e h i (object z x) = wrong-kind e i refl
+    concat-good t (Val.identifier j) w e h i x = elim x [ ]
