@@ -11,4 +11,5 @@ pub mod Classed
 pub mod Fields
 pub mod Calls
 pub mod Tests
+pub mod Receivers
 pub mod Operations

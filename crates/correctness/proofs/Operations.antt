@@ -9,13 +9,15 @@ use lib.Chars.{codes}
 use lib.IntN.{ℤ, pos}
 use lib.ListN.{length, getD}
 use Rattle.std.specs.Written.{signed}
+use Rattle.std.specs.Options.{isSome, mapped}
 use Rattle.std.specs.declared.option.Option.{Option}
 use Rattle.std.specs.declared.option.Option.the-variants.{Some, None}
 use Rattle.std.specs.declared.result.Result.{Result}
 use Rattle.std.specs.declared.result.Result.the-variants.{Ok, Err}
 use Rattle.std.proofs.shelf.Tests.{false≢true}
 use Rattle.store.specs.Val.{Val, equalVal}
-use Rattle.store.specs.Tables.{Table}
+use Rattle.store.specs.Tables.{Table, look}
+use Rattle.store.specs.Tables as store
 use Rattle.machine.specs.declared.arith.Op.{Op}
 use Rattle.machine.specs.declared.builtin.Builtin.{Builtin}
 use Rattle.machine.specs.declared.builtin.Builtin.the-variants as own
@@ -32,7 +34,7 @@ use Rattle.machine.specs.Operands.{truth, isOf}
 use Rattle.machine.specs.State as machine
 use Rattle.machine.specs.State.{Registers, Frame, frame, at, write}
 use Rattle.machine.proofs.Judge.{Has, Hold, none, more, Fetch}
-use Rattle.machine.proofs.Exec.{do-const, do-mov, do-arith, end-arith, do-eq, do-isKind, do-builtin, end-builtin, do-rdGlob, do-ret}
+use Rattle.machine.proofs.Exec.{do-const, do-mov, do-arith, end-arith, do-eq, do-isKind, do-builtin, end-builtin, do-rdGlob, do-rdTab, do-wrTab, end-wrTab, do-hasTab, do-ret}
 use Rattle.rube.specs.declared.builtin.Operation.{Operation}
 use Rattle.rube.specs.declared.builtin.Operation.the-variants.{
   Equal,
@@ -50,21 +52,25 @@ use Rattle.rube.specs.declared.builtin.Operation.the-variants.{
   Insert,
   Has as HasKey,
 }
-use Rattle.rube.specs.Classes.{Classes}
-use Rattle.rube.specs.Heap.{Heap, Setting, nil, fits}
+use Rattle.rube.specs.Classes.{Classes, classNames, classCount, known}
+use Rattle.rube.specs.Heap.{Cell, Heap, Setting, nil, noCell, fits}
 use Rattle.rube.specs.Heap as heap
 use Rattle.rube.specs.Evaluation.{State, Res, val, end, _>>=_, withEffects, outcome, effect}
 use Rattle.rube.specs.Methods.{makeString, printText, perform}
-use Rattle.compiler.specs.Pieces.{number, require}
-use Rattle.compiler.specs.Builtins.{ask, printFive, operationCode}
+use Rattle.compiler.specs.Pieces.{number, require, truthInto}
+use Rattle.compiler.specs.Layout.{classKey, nameKey, contentsKey, placeIn}
+use Rattle.compiler.specs.Builtins.{ask, classNameInto, printFive, contentsInto, operationCode}
 use Rattle.correctness.proofs.Relation.{shift, world, Globals, Fine, integer, text, object, FineHeap, Grows}
 use Rattle.correctness.proofs.Segments.{Seg, Split, split, head, tail, last}
 use Rattle.correctness.proofs.Following.{Sim, step-then, slack, done, ending}
 use Rattle.correctness.proofs.Registers.{has-written, has-other}
-use Rattle.correctness.proofs.Returning.{grows-same, Back}
-use Rattle.correctness.proofs.Values.{equal-shift}
+use Rattle.correctness.proofs.Returning.{Except, has-except, grows-same, Back}
+use Rattle.correctness.proofs.Classed.{except-two}
+use Rattle.correctness.proofs.Values.{equal-shift, some-mapped}
+use Rattle.correctness.proofs.Tabled.{object-table-here, cell-here, class-here, read-class, read-name, read-object-class, read-contents, read-key, write-key}
 use Rattle.correctness.proofs.Forms.{nil-fine}
 use Rattle.correctness.proofs.Fields.{truth-fine}
+use Rattle.correctness.proofs.Receivers.{ObjectAt, MapAt, Suits}
 use Rattle.correctness.proofs.Tests.{require-then, truth-then}
 
 -- the machine's own functions are found by their numbers
@@ -242,3 +248,57 @@ module _ {A : Type 0} (P : Classes A) (L : Limits) (C : Program) (G : Table) (gl
     concat-good t (Val.int n) w e h i integer = wrong-kind e i refl
     concat-good t (Val.location l) w e h i (object z x) = wrong-kind e i refl
     concat-good t (Val.identifier j) w e h i x = elim x [ ]
+
+    -- an object's class, and of that the name, go into register 5
+    class-name-then : {c g p q l : ℕ} {R : Registers} {x : Res Val} (z : ObjectAt P (s .heap) l) → Seg C g p classNameInto q → Has R 1 (Val.location (classCount P + l))
+        → ((R′ : Registers) → Has R′ 5 (Val.string (z .class)) → Answers (From g q R′ s) c x) → Answers (From g p R s) (suc (suc (suc (suc c)))) x
+    class-name-then {l = l} {R = R} z e h x =
+        let H = s .heap in
+        let E = z .class in
+        let n = z .is-known in
+        let d = Val.location (placeIn (classNames P) E) in
+        let R₁ = write R 4 classKey in
+        let R₂ = write R₁ 4 d in
+        let R₃ = write R₂ 5 nameKey in
+        step-then (do-const (head e) (omega arith))
+        (step-then (do-rdTab (head (tail e)) (omega arith) (has-other R 4 1 classKey (λ y. omega arith) h) (object-table-here P H l (z .is)) (has-written R 4 classKey) (read-object-class P H l (z .is)))
+        (step-then (do-const (head (tail (tail e))) (omega arith))
+        (step-then (do-rdTab (head (tail (tail (tail e)))) (omega arith) (has-other R₂ 5 4 nameKey (λ y. omega arith) (has-written R₁ 4 d)) (class-here P H E n) (has-written R₂ 5 nameKey) (read-class P H E nameKey n ∙ read-name P E))
+        (rw (last (tail (tail (tail e)))) (x _ (has-written R₃ 5 (Val.string E)))))))
+
+    className-good : {g p q l : ℕ} {R : Registers} (v w : Val) → ObjectAt P (s .heap) l → Seg C g p (operationCode ClassName) q → Has R 1 (Val.location (classCount P + l)) → Answers (From g p R s) 40 (perform setting ClassName (Val.location l) v w s)
+    unfolding operationCode perform
+    className-good v w z e h =
+        let y = split classNameInto _ e in
+        rw (z .is)
+        (class-name-then z (y .left) h (λ R′ h′. ret-then (s .effects) (Val.string (z .class)) (head (y .right)) h′ text))
+
+    printClassName-good : {g p q l : ℕ} {R : Registers} (v w : Val) → ObjectAt P (s .heap) l → Seg C g p (operationCode PrintClassName) q → Has R 1 (Val.location (classCount P + l)) → Answers (From g p R s) 40 (perform setting PrintClassName (Val.location l) v w s)
+    unfolding operationCode perform
+    printClassName-good v w z e h =
+        let y = split classNameInto _ e in
+        rw (z .is)
+        (class-name-then z (y .left) h (λ R′ h′. slack 36 (omega arith) (print-then (z .class) (Val.string (z .class)) _ refl refl (y .right) h′)))
+
+    -- where a Map's contents are goes into register 4
+    contents-then : {c g p q l : ℕ} {R : Registers} {x : Res Val} → MapAt P (s .heap) l → Seg C g p contentsInto q → Has R 1 (Val.location (classCount P + l))
+        → ((R′ : Registers) → Except 4 R R′ → Has R′ 4 (Val.location (classCount P + suc l)) → Answers (From g q R′ s) c x) → Answers (From g p R s) (suc (suc c)) x
+    contents-then {l = l} {R = R} z e h x =
+        let H = s .heap in
+        let d = Val.location (classCount P + suc l) in
+        step-then (do-const (head e) (omega arith))
+        (step-then (do-rdTab (head (tail e)) (omega arith) (has-other R 4 1 contentsKey (λ y. omega arith) h) (object-table-here P H l (z .is)) (has-written R 4 contentsKey) (read-contents P H l (z .is)))
+        (rw (last (tail e)) (x _ (except-two R 4 contentsKey d) (has-written (write R 4 contentsKey) 4 d))))
+
+    has-good : {g p q l : ℕ} {R : Registers} (v w : Val) → MapAt P (s .heap) l → Seg C g p (operationCode HasKey) q → Has R 1 (Val.location (classCount P + l)) → Has R 2 (shift P v) → Answers (From g p R s) 40 (perform setting HasKey (Val.location l) v w s)
+    unfolding operationCode perform
+    has-good {l = l} v w z e h i =
+        let y = split contentsInto _ e in
+        let u = split (truthInto 5 5) _ (tail (y .right)) in
+        let b = isSome (look v (z .table)) in
+        rw (z .contents)
+        (contents-then z (y .left) h
+        (λ R′ x h′. step-then (do-hasTab (head (y .right)) (omega arith) h′ (cell-here P (s .heap) (suc l) (z .behind)) (has-except (λ n. omega arith) x i))
+        (rw (read-key P (s .heap) (suc l) v (z .behind) (z .contents), some-mapped (shift P) (look v (z .table)))
+        (truth-then P L C G globals s b (omega arith) (u .left) (has-written R′ 5 (truth b))
+        (ret-then (s .effects) (heap.truth b) (head (u .right)) (has-written (write R′ 5 (truth b)) 5 (shift P (heap.truth b))) (truth-fine P L C G globals b (nil-fine P L C G globals heap-fine)))))))
