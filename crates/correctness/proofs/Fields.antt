@@ -136,9 +136,9 @@ module _ {A : Type 0} (P : Classes A) (L : Limits) (C : Program) (G : Table) (gl
           → Pre P L ns me d t S R₀ H₀ R s → Fit ns (Expr.field a x) t → Seg C f p (readField P x t) q → Self P (s .heap) me
           → Sim P C L G (suc k) (at f p R S (world P G s)) 0 (s .counted) f q S (Post P L ns me t R₀ H₀) (val (orNil (look (Val.string x) (fieldsOf (s .heap) (locationOf me)))) (evaluation.count s))
       by s h b g (self {l = l} {fs = fs} e m k) =
-          let fields = self-fields l (h .proper .heap-fine) e m in
+          let fields = self-fields l (h .proper .heap-fine .fine) e m in
           rw e (count-then (field-then (evaluation.count s) x (look (Val.string x) fs) (first P L h) (object-table-here P (s .heap) l e) (read-field P (s .heap) l x e (b .0))
-            (or-fine (s .heap) (look (Val.string x) fs) (nil-fine P L C G globals (h .proper .heap-fine)) (λ v q. fields-fine fs (Val.string x) v fields q)) (b .1) g))
+            (or-fine (s .heap) (look (Val.string x) fs) (nil-fine P L C G globals (h .proper .heap-fine .fine)) (λ v q. fields-fine fs (Val.string x) v fields q)) (b .1) g))
 
     -- a class that is not known is no value's
     unknown-apart : (D E : List ℕ) → known P D ≡ true → known P E ≡ false → sameBytes D E ≡ false
@@ -153,7 +153,7 @@ module _ {A : Type 0} (P : Classes A) (L : Limits) (C : Program) (G : Table) (gl
         → Sim P C L G (suc k) (at f p R S (world P G s)) 128 (s .counted) f q S (Post P L ns me t R₀ H₀) (val (heap.truth (sameBytes (classOf (s .heap) v) E)) s)
     test-then {t = t} {v = v} s E false n h w i b g =
         rw (unknown-apart (classOf (s .heap) v) E (fine-known w) n)
-        (step-then (do-rdGlob (head g) (omega arith) (globals .nils)) (done (last g) (answer P L h (nil-fine P L C G globals (h .proper .heap-fine)))))
+        (step-then (do-rdGlob (head g) (omega arith) (globals .nils)) (done (last g) (answer P L h (nil-fine P L C G globals (h .proper .heap-fine .fine)))))
     test-then {t = t} {v = v} s E true n h w i b g =
         let x = split (classInto P (suc t) t) _ g in
         class-then P L C G globals {c = 110} s v (omega arith) w (omega arith) (λ z. omega arith) (x .left) i
@@ -168,7 +168,7 @@ module _ {A : Type 0} (P : Classes A) (L : Limits) (C : Program) (G : Table) (gl
           (step-then (do-eq (head (tail (x .right))) (omega arith) (has-other R′ (t + 2) (suc t) l (λ z. omega arith) c) (has-written R′ (t + 2) l))
           (rw (equal-classes P (classOf (s .heap) v) E (fine-known w) n)
           (truth-then {c = 105} s t₂ (omega arith) (tail (tail (x .right))) (has-written R₁ (suc t) (truth t₂))
-          (done refl (answer P L φ (truth-fine t₂ (nil-fine P L C G globals (h .proper .heap-fine)))))))))
+          (done refl (answer P L φ (truth-fine t₂ (nil-fine P L C G globals (h .proper .heap-fine .fine)))))))))
 
     pub instanceOf-good : (a : A) (e : Expr A) (E : List ℕ) → Ok P L C G globals k again e → Ok P L C G globals k again (Expr.instanceOf a e E)
     unfolding eval compile

@@ -129,7 +129,7 @@ module _ {A : Type 0} (P : Classes A) (L : Limits) (C : Program) (G : Table) (gl
       (step-then (do-eq (head (tail (tail g))) (omega arith) (has-written R₁ (suc t) mark) (has-other R₁ (suc t) t mark (λ q. omega arith) (has-written R t mark)))
       (step-then (do-ifOther (head (tail (tail (tail g)))) (has-written R₂ (suc t) (truth true)) refl)
       (step-then (do-const (head (tail (tail (tail (tail g))))) (omega arith))
-      (ending (end-halt (head (tail (tail (tail (tail (tail g)))))) (has-written R₃ (suc t) (Val.int (pos 4)))))))))
+      (ending refl (end-halt (head (tail (tail (tail (tail (tail g)))))) (has-written R₃ (suc t) (Val.int (pos 4)))))))))
   bound-then {t = t} {R = R} s x (Some v) e h m b g =
       let r = rw e at (h .stand .names-in x m) in
       let w = look-fine (s .locals) (Val.string x) v (h .proper .locals-fine) e in
@@ -211,7 +211,7 @@ module _ {A : Type 0} (P : Classes A) (L : Limits) (C : Program) (G : Table) (gl
 
     pub nil-good : (a : A) → Ok (Expr.nil a)
     unfolding eval compile
-    nil-good a = record { sim = λ h b g. count-then (step-then (do-rdGlob (head g) b (globals .nils)) (done (last g) (answer P L (first P L h) (nil-fine (h .proper .heap-fine))))) }
+    nil-good a = record { sim = λ h b g. count-then (step-then (do-rdGlob (head g) b (globals .nils)) (done (last g) (answer P L (first P L h) (nil-fine (h .proper .heap-fine .fine))))) }
 
     pub self-good : (a : A) → Ok (Expr.self a)
     unfolding eval compile

@@ -1,9 +1,14 @@
 pub mod Relation
 pub mod Segments
 pub mod Following
+pub mod Loaded
+pub mod Lookup
 pub mod Values
 pub mod Tabled
+pub mod Heaps
+pub mod Space
 pub mod Registers
+pub mod Slots
 pub mod Judged
 pub mod Forms
 pub mod Returning
@@ -13,3 +18,9 @@ pub mod Calls
 pub mod Tests
 pub mod Receivers
 pub mod Operations
+pub mod Methods
+pub mod Closing
+pub mod Fitted
+pub mod Spelling
+pub mod CodeLength
+pub mod GlobalsUsed

@@ -20,6 +20,10 @@ use Rattle.rube.specs.Evaluation.{State}
 use Rattle.compiler.specs.Layout.{classKey, nameKey, contentsKey, mark, nilGlobal, classGlobal, placeIn, slot, free, functionOf}
 use Rattle.correctness.specs.Fitting.{FieldName}
 
+-- behind each Map stands a cell
+pub record Backed (H : Heap) : Type 0 where
+  pub behind : (l : ℕ) (fs : Table) → getD H l noCell ≡ Cell.object (codes "Map") fs → suc l < length H
+
 module _ {A : Type 0} (P : Classes A) where
   -- the class tables come first, so a location moves up by their number
   abbrev pub shift : Val → Val
@@ -84,6 +88,11 @@ module _ {A : Type 0} (P : Classes A) where
     pub cells : (l : ℕ) → l < length H → FineCell H l (getD H l noCell)
     pub bot : (fs : Table) × (getD H 0 noCell ≡ Cell.object (codes "Bot") fs)
 
+  -- a heap of the language: fine, and with a cell behind each Map
+  pub record Sound (H : Heap) : Type 0 where
+    pub fine : FineHeap H
+    pub backed : Backed H
+
   -- a receiver of written methods: an object that is no Map
   pub data Self (H : Heap) : Val → Type 0 where
     self : {l : ℕ} {C : List ℕ} {fs : Table} → getD H l noCell ≡ Cell.object C fs → sameBytes C (codes "Map") ≡ false → known P C ≡ true → Self H (Val.location l)
@@ -104,7 +113,7 @@ module _ {A : Type 0} (P : Classes A) where
 
   -- the state is one that evaluation comes to
   pub record Proper (limits : _) (me : Val) (s : State) : Type 0 where
-    pub heap-fine : FineHeap (s .heap)
+    pub heap-fine : Sound (s .heap)
     pub me-fine : Self (s .heap) me
     pub locals-fine : All (λ p. Fine (s .heap) (p .1)) (s .locals)
     pub space : fits (record { classes = P; limits = limits }) (s .heap) 0 0 ≡ true

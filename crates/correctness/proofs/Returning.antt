@@ -16,7 +16,7 @@ use Rattle.rube.specs.Classes.{Classes}
 use Rattle.rube.specs.Heap.{Heap, fits}
 use Rattle.rube.specs.Evaluation.{State}
 use Rattle.compiler.specs.Layout.{free}
-use Rattle.correctness.proofs.Relation.{shift, Fine, integer, text, object, FineHeap, Self, self, Proper, Stand, Grows, Keep}
+use Rattle.correctness.proofs.Relation.{shift, Fine, integer, text, object, Sound, Self, self, Proper, Stand, Grows, Keep}
 use Rattle.correctness.proofs.Registers.{has-written, has-other, keep-write, stand-write, slot-below}
 use Rattle.correctness.proofs.Judged.{Pre, Post}
 
@@ -69,7 +69,7 @@ module _ {A : Type 0} (P : Classes A) (L : Limits) where
   pub record Back (R : Registers) (t : ℕ) (s : State) (v : Val) (s′ : State) (R′ : Registers) : Type 0 where
     pub is : R′ ≡ write R t (shift P v)
     pub fine : Fine P (s′ .heap) v
-    pub heap-fine : FineHeap P (s′ .heap)
+    pub heap-fine : Sound P (s′ .heap)
     pub grows : Grows P (s .heap) (s′ .heap)
     pub space : fits (record { classes = P; limits = L }) (s′ .heap) 0 0 ≡ true
     pub locals : s′ .locals ≡ s .locals

@@ -1,15 +1,13 @@
 -- How the meaning's heap stands in the machine's tables. Assumes nothing.
-use mathlib.Core.Path.{_≡_, refl, sym, ap, subst, _∙_}
+use mathlib.Core.Path.{_≡_, refl, sym, ap, _∙_}
 use mathlib.Core.Logic.{⊎-elim}
 use mathlib.Core.Bool.{Bool, true, false, cond, _||_}
 use mathlib.Core.List.{List, [], _∷_, _++_, map}
-use Prim.Native.Nat.{ℕ, zero, suc, _+_, _-_, _<_, _≤_}
+use Prim.Native.Nat.{ℕ, suc, _+_, _-_, _<_, _≤_}
 use native.Mathlib.Omega.{arith}
 use lib.Chars.{codes}
-use lib.Dec.{eqb}
 use lib.ListN.{length, getD, set}
-use Rattle.std.specs.Options.{isSome, mapped}
-use Rattle.std.specs.declared.option.Option.{Option}
+use Rattle.std.specs.Options.{mapped}
 use Rattle.std.specs.declared.option.Option.the-variants.{Some, None}
 use Rattle.std.specs.shelf.Text.{sameBytes}
 use Rattle.std.proofs.shelf.Equals.{sameBytes-decides}
@@ -24,8 +22,8 @@ use Rattle.rube.specs.Heap.{Cell, Heap, noCell, cellTable, withTable, cellPairs
 use Rattle.rube.specs.Meaning.{cellsOf}
 use Rattle.compiler.specs.Layout.{classKey, nameKey, contentsKey, placeIn, functionOf}
 use Rattle.correctness.specs.Fitting.{FieldName, MethodName}
-use Rattle.correctness.proofs.Relation.{shift, shiftTable, methodPair, classTable, classTables, tableOf, tablesOf}
-use Rattle.correctness.proofs.Values.{equal-same, string-key, same-bytes, field-no-class, contents-no-class, method-no-name, through-cond, look-shift, put-shift}
+use Rattle.correctness.proofs.Relation.{shift, methodPair, classTable, classTables, tableOf, tablesOf}
+use Rattle.correctness.proofs.Values.{equal-same, string-key, field-no-class, contents-no-class, method-no-name, through-cond, look-shift, put-shift}
 
 -- a name that is among others stands at its place
 pub place-below : (Cs : List (List ℕ)) (C : List ℕ) → among Cs C ≡ true → placeIn Cs C < length Cs
@@ -231,6 +229,10 @@ module _ {A : Type 0} (P : Classes A) where
   -- the table behind what was just made is the next
   pub length-made : (H : Heap) (x : Cell) → length (tablesOf P (H ++ x ∷ [])) ≡ classCount P + suc (length H)
   length-made H x = length-tables (H ++ x ∷ []) ∙ simp length-append (omega arith)
+
+  pub no-contents-yet : (H : Heap) (C : List ℕ) → store.read (tablesOf P (H ++ Cell.object C [] ∷ [])) (classCount P + length H) contentsKey ≡ None
+  unfolding look
+  no-contents-yet H C = read-other (H ++ Cell.object C [] ∷ []) (length H) contentsKey (new-object H C) contents-no-class
 
   -- a Map has one more empty table, whose place is written in the first
   pub make-map : (H : Heap) → store.write (tablesOf P (H ++ Cell.object (codes "Map") [] ∷ []) ++ [] ∷ []) (classCount P + length H) contentsKey (Val.location (classCount P + suc (length H))) ≡ tablesOf P (H ++ cellsOf (codes "Map") H)

@@ -1,56 +1,29 @@
 -- When two values are equal, what a table's key holds after a write, and what moving locations up changes. Assumes nothing.
-use mathlib.Core.Path.{_≡_, refl, sym, ap, subst, _∙_}
+use mathlib.Core.Path.{_≡_, refl, sym, ap, _∙_}
 use mathlib.Core.Bool.{Bool, true, false, cond}
-use mathlib.Core.List.{List, [], _∷_, _++_, map}
-use Prim.Native.Nat.{ℕ, zero, suc, _+_}
+use mathlib.Core.List.{List, [], _∷_}
+use Prim.Native.Nat.{ℕ, _+_}
 use native.Mathlib.Omega.{arith}
 use lib.Dec.{eqb}
-use lib.IntN.{ℤ, pos, negsuc}
-use lib.ListN.{length}
 use Rattle.std.specs.Options.{isSome, mapped}
-use Rattle.std.specs.Orderings.{Decides}
 use Rattle.std.specs.declared.option.Option.{Option}
 use Rattle.std.specs.declared.option.Option.the-variants.{Some, None}
 use Rattle.std.specs.shelf.Text.{sameBytes}
 use Rattle.std.proofs.shelf.Equals.{sameBytes-decides}
 use Rattle.std.proofs.shelf.Ways.{decides-eqb, decides-like, same-from-decides}
 use Rattle.text.specs.Memory.{equalBytes}
-use Rattle.text.proofs.Meanings.{not-true, decides-bytes}
-use Rattle.store.specs.Val.{Val, equalInt, equalVal}
+use Rattle.text.proofs.Meanings.{decides-bytes}
+use Rattle.store.specs.Val.{Val, equalVal}
 use Rattle.store.specs.Tables.{Table, look, put}
+use Rattle.store.proofs.Values.{decides-val}
 use Rattle.rube.specs.Classes.{Classes, classCount}
 use Rattle.correctness.specs.Fitting.{FieldName, MethodName}
 use Rattle.compiler.specs.Layout.{classKey, nameKey, contentsKey}
-use Rattle.correctness.proofs.Relation.{shift, shiftPair, shiftTable}
+use Rattle.correctness.proofs.Relation.{shift, shiftTable}
 
-decides-int : (x y : ℤ) → Decides (equalInt x y) (x ≡ y)
-decides-int (pos m) (pos n) = decides-like (eqb m n) (ap pos) (λ e. cc) (decides-eqb m n)
-decides-int (pos m) (negsuc n) = (not-true, λ e. cc)
-decides-int (negsuc m) (pos n) = (not-true, λ e. cc)
-decides-int (negsuc m) (negsuc n) = decides-like (eqb m n) (ap negsuc) (λ e. cc) (decides-eqb m n)
-
--- values are equal that are the same
-pub equal-decides : (x y : Val) → Decides (equalVal x y) (x ≡ y)
-unfolding equalVal
-equal-decides (Val.int m) (Val.int n) = decides-like (equalInt m n) (ap Val.int) (λ e. cc) (decides-int m n)
-equal-decides (Val.int m) (Val.string t) = (not-true, λ e. cc)
-equal-decides (Val.int m) (Val.identifier j) = (not-true, λ e. cc)
-equal-decides (Val.int m) (Val.location q) = (not-true, λ e. cc)
-equal-decides (Val.string s) (Val.int n) = (not-true, λ e. cc)
-equal-decides (Val.string s) (Val.string t) = decides-like (equalBytes s t) (ap Val.string) (λ e. cc) (decides-bytes s t)
-equal-decides (Val.string s) (Val.identifier j) = (not-true, λ e. cc)
-equal-decides (Val.string s) (Val.location q) = (not-true, λ e. cc)
-equal-decides (Val.identifier i) (Val.int n) = (not-true, λ e. cc)
-equal-decides (Val.identifier i) (Val.string t) = (not-true, λ e. cc)
-equal-decides (Val.identifier i) (Val.identifier j) = decides-like (eqb i j) (ap Val.identifier) (λ e. cc) (decides-eqb i j)
-equal-decides (Val.identifier i) (Val.location q) = (not-true, λ e. cc)
-equal-decides (Val.location p) (Val.int n) = (not-true, λ e. cc)
-equal-decides (Val.location p) (Val.string t) = (not-true, λ e. cc)
-equal-decides (Val.location p) (Val.identifier j) = (not-true, λ e. cc)
-equal-decides (Val.location p) (Val.location q) = decides-like (eqb p q) (ap Val.location) (λ e. cc) (decides-eqb p q)
-
+-- a value equals itself
 pub equal-same : (v : Val) → equalVal v v ≡ true
-equal-same v = equal-decides v v .1 refl
+equal-same v = decides-val v v .1 refl
 
 -- strings are equal whose bytes are
 pub string-key : (x y : List ℕ) → equalVal (Val.string x) (Val.string y) ≡ sameBytes x y

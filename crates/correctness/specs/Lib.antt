@@ -1,1 +1,4 @@
 pub mod Fitting
+pub mod Accepted
+pub mod Spelled
+pub mod CodeSize
