@@ -6,7 +6,7 @@ use mathlib.Core.List.{List, [], _∷_, _++_, map}
 use Prim.Native.Nat.{ℕ, zero, suc, _+_, _-_, _<_, _≤_}
 use native.Mathlib.Omega.{arith}
 use lib.Chars.{codes}
-use lib.IntN.{ℤ, pos}
+use lib.IntN.{ℤ, pos, negsuc}
 use lib.ListN.{length, getD}
 use Rattle.std.specs.Written.{signed}
 use Rattle.std.specs.Options.{isSome, mapped}
@@ -19,15 +19,16 @@ use Rattle.store.specs.Val.{Val, equalVal}
 use Rattle.store.specs.Tables.{Table, look}
 use Rattle.store.specs.Tables as store
 use Rattle.machine.specs.declared.arith.Op.{Op}
+use Rattle.machine.specs.declared.arith.Op.the-variants.{Add, Sub, Mul, Div}
 use Rattle.machine.specs.declared.builtin.Builtin.{Builtin}
 use Rattle.machine.specs.declared.builtin.Builtin.the-variants as own
 use Rattle.machine.specs.declared.ending.Ending.{Ending}
-use Rattle.machine.specs.declared.ending.Ending.the-variants.{WrongArgumentKind}
+use Rattle.machine.specs.declared.ending.Ending.the-variants.{WrongArgumentKind, NoTextSpace, NoOutputSpace, DivisionByZero}
 use Rattle.machine.specs.declared.instruction.Kind.{Kind}
 use Rattle.machine.specs.Limits.{Limits, registersPerFrame}
-use Rattle.machine.specs.Outcome.{Outcome}
+use Rattle.machine.specs.Outcome.{Outcome, unless}
 use Rattle.machine.specs.Arith as arithmetic
-use Rattle.machine.specs.Effects.{Effects, charge, print}
+use Rattle.machine.specs.Effects.{Effects, charged, printed, charge, print}
 use Rattle.machine.specs.Builtin.{builtinNumber, builtinOf, integerIn, stringIn, shown, apply}
 use Rattle.machine.specs.Instr.{Instr, Program}
 use Rattle.machine.specs.Operands.{truth, isOf}
@@ -60,9 +61,9 @@ use Rattle.rube.specs.Methods.{makeString, printText, perform}
 use Rattle.compiler.specs.Pieces.{number, require, truthInto}
 use Rattle.compiler.specs.Layout.{classKey, nameKey, contentsKey, placeIn}
 use Rattle.compiler.specs.Builtins.{ask, classNameInto, printFive, contentsInto, operationCode}
-use Rattle.correctness.proofs.Relation.{shift, world, Globals, Fine, integer, text, object, FineHeap, Grows}
+use Rattle.correctness.proofs.Relation.{shift, world, Globals, Fine, integer, text, object, Sound, Grows}
 use Rattle.correctness.proofs.Segments.{Seg, Split, split, head, tail, last}
-use Rattle.correctness.proofs.Following.{Sim, step-then, slack, done, ending}
+use Rattle.correctness.proofs.Following.{Sim, legal, step-then, slack, done, ending}
 use Rattle.correctness.proofs.Registers.{has-written, has-other}
 use Rattle.correctness.proofs.Returning.{Except, has-except, grows-same, Back}
 use Rattle.correctness.proofs.Classed.{except-two}
@@ -72,6 +73,28 @@ use Rattle.correctness.proofs.Forms.{nil-fine}
 use Rattle.correctness.proofs.Fields.{truth-fine}
 use Rattle.correctness.proofs.Receivers.{ObjectAt, MapAt, Suits}
 use Rattle.correctness.proofs.Tests.{require-then, truth-then}
+
+-- what has no space, or divides by zero, ends with an ending of the language
+unless-legal : {X : Type 0} (z : Ending) (b : Bool) (x : X) (e : Ending) → legal z ≡ true → unless z b (Ok x) ≡ Err e → legal e ≡ true
+unless-legal z true x e l h = let y : _≡_ {A = ℕ} 0 1 = cc in absurd (omega arith)
+unless-legal z false x e l h = let y : z ≡ e = cc in rw (← y) l
+
+pub charge-legal : (n : ℕ) (o : Effects) (e : Ending) → charge n o ≡ Err e → legal e ≡ true
+unfolding charge
+charge-legal n o e h = unless-legal NoTextSpace _ (charged n o) e refl h
+
+pub print-legal : (t : List ℕ) (o : Effects) (e : Ending) → print t o ≡ Err e → legal e ≡ true
+unfolding print
+print-legal t o e h = unless-legal NoOutputSpace _ (printed t o) e refl h
+
+pub arith-legal : (o : Op) (m n : ℤ) (e : Ending) → arithmetic.arith o m n ≡ Err e → legal e ≡ true
+unfolding arithmetic.arith
+arith-legal Add m n e h = let y : _≡_ {A = ℕ} 0 1 = cc in absurd (omega arith)
+arith-legal Sub m n e h = let y : _≡_ {A = ℕ} 0 1 = cc in absurd (omega arith)
+arith-legal Mul m n e h = let y : _≡_ {A = ℕ} 0 1 = cc in absurd (omega arith)
+arith-legal Div m (pos zero) e h = let y : DivisionByZero ≡ e = cc in rw (← y)
+arith-legal Div m (pos (suc n)) e h = let y : _≡_ {A = ℕ} 0 1 = cc in absurd (omega arith)
+arith-legal Div m (negsuc n) e h = let y : _≡_ {A = ℕ} 0 1 = cc in absurd (omega arith)
 
 -- the machine's own functions are found by their numbers
 own-found : (b : Builtin) → builtinOf (builtinNumber b) ≡ Some b
@@ -85,7 +108,7 @@ module _ {A : Type 0} (P : Classes A) (L : Limits) (C : Program) (G : Table) (gl
   setting = record { classes = P; limits = L }
 
   -- a caller waits at its call, with the registers Rc; the state is s
-  module _ (k : ℕ) (Rc : Registers) (S : List Frame) {f pc a first final : ℕ} (call : Fetch C f pc (Instr.call a first final)) (below : first < registersPerFrame) (s : State) (heap-fine : FineHeap P (s .heap)) (space : fits (record { classes = P; limits = L }) (s .heap) 0 0 ≡ true) where
+  module _ (k : ℕ) (Rc : Registers) (S : List Frame) {f pc a first final : ℕ} (call : Fetch C f pc (Instr.call a first final)) (below : first < registersPerFrame) (s : State) (heap-sound : Sound P (s .heap)) (space : fits (record { classes = P; limits = L }) (s .heap) 0 0 ≡ true) where
     abbrev From : ℕ → ℕ → Registers → State → machine.State
     From g p R s′ = at g p R (frame f pc Rc ∷ S) (world P G s′)
 
@@ -96,7 +119,7 @@ module _ {A : Type 0} (P : Classes A) (L : Limits) (C : Program) (G : Table) (gl
     ret-then : {c g p a : ℕ} {R : Registers} (o : Effects) (v : Val) → Fetch C g p (Instr.ret a) → Has R a (shift P v) → Fine P (s .heap) v → Answers (From g p R (withEffects o s)) (suc c) (val v (withEffects o s))
     ret-then o v h i w =
         step-then (do-ret h i refl call below)
-        (done refl (record { is = refl; fine = w; heap-fine = heap-fine; grows = grows-same P L; space = space; locals = refl }))
+        (done refl (record { is = refl; fine = w; heap-fine = heap-sound; grows = grows-same P L; space = space; locals = refl }))
 
     itself-good : {g p q : ℕ} {R : Registers} (r v w : Val) → Seg C g p (operationCode Itself) q → Has R 1 (shift P r) → Fine P (s .heap) r → Answers (From g p R s) 40 (perform setting Itself r v w s)
     unfolding operationCode perform
@@ -109,8 +132,8 @@ module _ {A : Type 0} (P : Classes A) (L : Limits) (C : Program) (G : Table) (gl
         let y = split _ (Instr.ret 4 ∷ []) (tail e) in
         step-then (do-eq (head e) (omega arith) h i)
         (rw (equal-shift P r v)
-        (truth-then P L C G globals s t (omega arith) (y .left) (has-written R 4 (truth t))
-        (ret-then (s .effects) (heap.truth t) (head (y .right)) (has-written (write R 4 (truth t)) 4 (shift P (heap.truth t))) (truth-fine P L C G globals t (nil-fine P L C G globals heap-fine)))))
+        (truth-then P L C G s t globals (omega arith) (y .left) (has-written R 4 (truth t))
+        (ret-then (s .effects) (heap.truth t) (head (y .right)) (has-written (write R 4 (truth t)) 4 (shift P (heap.truth t))) (truth-fine P L C G globals t (nil-fine P L C G globals (heap-sound .fine))))))
 
     nilText-good : {g p q : ℕ} {R : Registers} (r v w : Val) → Seg C g p (operationCode NilText) q → Answers (From g p R s) 40 (perform setting NilText r v w s)
     unfolding operationCode perform
@@ -127,11 +150,11 @@ module _ {A : Type 0} (P : Classes A) (L : Limits) (C : Program) (G : Table) (gl
         (step-then (do-builtin (head (tail e)) (has-written R 4 i) (more (has-other R 4 r i (λ z. n (sym z)) h) none) (omega arith) (own-found b) a)
         (rw (last (tail e)) x))
 
-    ask-ends : {c g p q r : ℕ} {R : Registers} (b : Builtin) (v : Val) (z : Ending) → r ≢ 4 → Seg C g p (ask b r) q → Has R r v → apply b (v ∷ []) (s .effects) ≡ Err z → Answers (From g p R s) (suc (suc c)) (end z s)
-    ask-ends {r = r} {R = R} b v z n e h a =
+    ask-ends : {c g p q r : ℕ} {R : Registers} (b : Builtin) (v : Val) (z : Ending) → legal z ≡ true → r ≢ 4 → Seg C g p (ask b r) q → Has R r v → apply b (v ∷ []) (s .effects) ≡ Err z → Answers (From g p R s) (suc (suc c)) (end z s)
+    ask-ends {r = r} {R = R} b v z l n e h a =
         let i = Val.identifier (builtinNumber b) in
         step-then (do-const (head e) (omega arith))
-        (ending (end-builtin (head (tail e)) (has-written R 4 i) (more (has-other R 4 r i (λ y. n (sym y)) h) none) (omega arith) (own-found b) a))
+        (ending l (end-builtin (head (tail e)) (has-written R 4 i) (more (has-other R 4 r i (λ y. n (sym y)) h) none) (omega arith) (own-found b) a))
 
     -- what register 5 holds is printed
     print-then : {g p q : ℕ} {R : Registers} (t : List ℕ) (v : Val) (y : Outcome Effects) → print t (s .effects) ≡ y → shown v ≡ Ok t → Seg C g p printFive q → Has R 5 v → Answers (From g p R s) 30 (effect y s >>= (λ _ s′. val nil s′))
@@ -141,8 +164,8 @@ module _ {A : Type 0} (P : Classes A) (L : Limits) (C : Program) (G : Table) (gl
         let R₂ = write (write R 4 (Val.identifier (builtinNumber own.PrintValue))) 5 (Val.int (pos 0)) in
         ask-then own.PrintValue v (Val.int (pos 0)) o (λ n. omega arith) (z .left) h (rw (a, d))
         (step-then (do-rdGlob (head (z .right)) (omega arith) (globals .nils))
-        (ret-then o nil (head (tail (z .right))) (has-written R₂ 5 (shift P nil)) (nil-fine P L C G globals heap-fine)))
-    print-then t v (Err x) d a e h = ask-ends own.PrintValue v x (λ n. omega arith) (split (ask own.PrintValue 5) _ e .left) h (rw (a, d))
+        (ret-then o nil (head (tail (z .right))) (has-written R₂ 5 (shift P nil)) (nil-fine P L C G globals (heap-sound .fine))))
+    print-then t v (Err x) d a e h = ask-ends own.PrintValue v x (print-legal t (s .effects) x d) (λ n. omega arith) (split (ask own.PrintValue 5) _ e .left) h (rw (a, d))
 
     printNil-good : {g p q : ℕ} {R : Registers} (r v w : Val) → Seg C g p (operationCode PrintNil) q → Answers (From g p R s) 40 (perform setting PrintNil r v w s)
     unfolding operationCode perform
@@ -167,7 +190,7 @@ module _ {A : Type 0} (P : Classes A) (L : Limits) (C : Program) (G : Table) (gl
         let x = Val.string (signed n) in
         ask-then own.ToS (Val.int n) x o (λ m. omega arith) (z .left) h (rw d)
         (ret-then o x (head (z .right)) (has-written (write R 4 i) 5 x) text)
-    made-then n (Err x) d e h = ask-ends own.ToS (Val.int n) x (λ m. omega arith) (split (ask own.ToS 5) _ e .left) h (rw d)
+    made-then n (Err x) d e h = ask-ends own.ToS (Val.int n) x (charge-legal (length (signed n)) (s .effects) x d) (λ m. omega arith) (split (ask own.ToS 5) _ e .left) h (rw d)
 
     decimal-good : {g p q : ℕ} {R : Registers} (n : ℤ) (v w : Val) → Seg C g p (operationCode Decimal) q → Has R 1 (Val.int n) → Answers (From g p R s) 40 (perform setting Decimal (Val.int n) v w s)
     unfolding operationCode perform
@@ -190,20 +213,20 @@ module _ {A : Type 0} (P : Classes A) (L : Limits) (C : Program) (G : Table) (gl
     wrong-kind {R = R} {code = code} e i z =
         step-then (do-isKind (head e) (omega arith) i)
         (rw z
-        (require-then P L C G globals {x = val nil s} s false (omega arith) (split (require 4 6) code (tail e) .left) (has-written R 4 (truth false)) (λ b. absurd (false≢true b))))
+        (require-then P L C G {x = val nil s} s false refl (omega arith) (split (require 4 6) code (tail e) .left) (has-written R 4 (truth false)) (λ b. absurd (false≢true b))))
 
     -- the sum, difference, product or quotient of two integers
     computed-then : {g p q : ℕ} {R : Registers} (o : Op) (m n : ℤ) (y : Outcome ℤ) → arithmetic.arith o m n ≡ y → Seg C g p (Instr.arith o 4 1 2 ∷ Instr.ret 4 ∷ []) q → Has R 1 (Val.int m) → Has R 2 (Val.int n) → Answers (From g p R s) 30 (outcome y s >>= (λ z. val (Val.int z)))
     computed-then {R = R} o m n (Ok z) d e h i =
         step-then (do-arith (head e) (omega arith) h i d) (ret-then (s .effects) (Val.int z) (head (tail e)) (has-written R 4 (Val.int z)) integer)
-    computed-then o m n (Err x) d e h i = ending (end-arith (head e) (omega arith) h i d)
+    computed-then o m n (Err x) d e h i = ending (arith-legal o m n x d) (end-arith (head e) (omega arith) h i d)
 
     arith-good : {g p q : ℕ} {R : Registers} (o : Op) (m : ℤ) (v w : Val) → Seg C g p (operationCode (Arith o)) q → Has R 1 (Val.int m) → Has R 2 (shift P v) → Fine P (s .heap) v → Answers (From g p R s) 40 (perform setting (Arith o) (Val.int m) v w s)
     unfolding operationCode perform
     arith-good {R = R} o m (Val.int n) w e h i integer =
         let y = split (require 4 6) _ (tail e) in
         step-then (do-isKind (head e) (omega arith) i)
-        (require-then P L C G globals s true (omega arith) (y .left) (has-written R 4 (truth true))
+        (require-then P L C G s true refl (omega arith) (y .left) (has-written R 4 (truth true))
         (λ _. slack 37 (omega arith)
         (computed-then o m n _ refl (y .right) (has-other R 4 1 (truth true) (λ z. omega arith) h) (has-other R 4 2 (truth true) (λ z. omega arith) i))))
     arith-good {R = R} o m (Val.string t) w e h i text = wrong-kind e i refl
@@ -227,7 +250,7 @@ module _ {A : Type 0} (P : Classes A) (L : Limits) (C : Program) (G : Table) (gl
         let f₄ = Val.identifier (builtinNumber own.Concat) in
         let both = more (has-other R 4 5 f₄ (λ z. omega arith) h) (more (has-other R 4 6 f₄ (λ z. omega arith) i) none) in
         step-then (do-const (head e) (omega arith))
-        (ending (end-builtin (head (tail e)) (has-written R 4 f₄) both (omega arith) (own-found own.Concat) (rw d)))
+        (ending (charge-legal (length (t ++ u)) (s .effects) z d) (end-builtin (head (tail e)) (has-written R 4 f₄) both (omega arith) (own-found own.Concat) (rw d)))
 
     concat-good : {g p q : ℕ} {R : Registers} (t : List ℕ) (v w : Val) → Seg C g p (operationCode Concat) q → Has R 1 (Val.string t) → Has R 2 (shift P v) → Fine P (s .heap) v → Answers (From g p R s) 40 (perform setting Concat (Val.string t) v w s)
     unfolding operationCode perform
@@ -241,7 +264,7 @@ module _ {A : Type 0} (P : Classes A) (L : Limits) (C : Program) (G : Table) (gl
         let i₂ = has-other R₁ 5 2 (Val.string t) (λ z. omega arith) i₁ in
         let t₃ = has-other R₂ 6 5 (Val.string u) (λ z. omega arith) (has-written R₁ 5 (Val.string t)) in
         step-then (do-isKind (head e) (omega arith) i)
-        (require-then P L C G globals s true (omega arith) (y .left) (has-written R 4 (truth true))
+        (require-then P L C G s true refl (omega arith) (y .left) (has-written R 4 (truth true))
         (λ _. step-then (do-mov (head (y .right)) (omega arith) h₁)
         (step-then (do-mov (head (tail (y .right))) (omega arith) i₂)
         (slack 35 (omega arith) (joined-then t u _ refl (tail (tail (y .right))) t₃ (has-written R₂ 6 (Val.string u)))))))
@@ -300,5 +323,5 @@ module _ {A : Type 0} (P : Classes A) (L : Limits) (C : Program) (G : Table) (gl
         (contents-then z (y .left) h
         (λ R′ x h′. step-then (do-hasTab (head (y .right)) (omega arith) h′ (cell-here P (s .heap) (suc l) (z .behind)) (has-except (λ n. omega arith) x i))
         (rw (read-key P (s .heap) (suc l) v (z .behind) (z .contents), some-mapped (shift P) (look v (z .table)))
-        (truth-then P L C G globals s b (omega arith) (u .left) (has-written R′ 5 (truth b))
-        (ret-then (s .effects) (heap.truth b) (head (u .right)) (has-written (write R′ 5 (truth b)) 5 (shift P (heap.truth b))) (truth-fine P L C G globals b (nil-fine P L C G globals heap-fine)))))))
+        (truth-then P L C G s b globals (omega arith) (u .left) (has-written R′ 5 (truth b))
+        (ret-then (s .effects) (heap.truth b) (head (u .right)) (has-written (write R′ 5 (truth b)) 5 (shift P (heap.truth b))) (truth-fine P L C G globals b (nil-fine P L C G globals (heap-sound .fine))))))))
