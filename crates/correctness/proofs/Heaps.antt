@@ -12,21 +12,18 @@ use Rattle.std.specs.shelf.Text.{sameBytes}
 use Rattle.std.specs.declared.option.Option.the-variants.{Some}
 use Rattle.std.proofs.shelf.Elements.{all-weaker}
 use Rattle.std.proofs.shelf.Equals.{sameBytes-decides}
-use Rattle.std.proofs.shelf.Lists.{length-append, length-set, getD-append-left, getD-append-add, getD-append-right, getD-set-same, getD-set-other, set-past}
+use Rattle.std.proofs.shelf.Lists.{length-append, length-set, getD-at, getD-append-left, getD-append-add, getD-append-right, getD-set-same, getD-set-other, set-past}
 use Rattle.std.proofs.shelf.Tests.{cases-eq, cases-lt, both-ways}
 use Rattle.store.specs.Val.{Val, equalVal}
+use Rattle.store.specs.Tables as store
 use Rattle.store.specs.Tables.{Table, look, put}
-use Rattle.rube.specs.Classes.{Classes, known}
+use Rattle.rube.specs.Classes.{Classes, known, classCount}
 use Rattle.rube.specs.Heap.{Cell, Heap, noCell, firstHeap, cellClass, cellTable, withTable, classOf, fieldsOf, putAt}
 use Rattle.rube.specs.Meaning.{cellsOf}
 use Rattle.compiler.specs.Layout.{contentsKey}
 use Rattle.correctness.specs.Fitting.{FieldName}
-use Rattle.correctness.proofs.Relation.{Fine, integer, text, object, FineField, FineCell, aMap, anObject, itsContents, FineHeap, Self, self, Grows}
-use Rattle.correctness.proofs.Tabled.{object-here, cells-object}
-
--- each Map has a cell behind it
-pub record Backed (H : Heap) : Type 0 where
-  pub behind : (l : ℕ) (fs : Table) → getD H l noCell ≡ Cell.object (codes "Map") fs → suc l < length H
+use Rattle.correctness.proofs.Relation.{tablesOf, Fine, integer, text, object, FineField, FineCell, aMap, anObject, itsContents, Plain, FineHeap, Backed, Sound, Self, self, Grows}
+use Rattle.correctness.proofs.Tabled.{object-here, new-object, cells-object, read-contents}
 
 -- contents stay contents
 pub record KeepsContents (H H′ : Heap) : Type 0 where
@@ -65,6 +62,7 @@ put-shape H l k v j =
     (λ (n : j ≡ l → ⊥). (fieldsOf H j, getD-set-other H l j (withTable (put k v (fieldsOf H l)) (getD H l noCell)) noCell n ∙ sym (with-same (getD H j noCell))))
     (cases-eq j l)
 
+-- a write makes no cell
 pub length-putAt : (H : Heap) (l : ℕ) (k v : Val) → length (putAt H l k v) ≡ length H
 length-putAt H l k v = length-set H l (withTable (put k v (fieldsOf H l)) (getD H l noCell))
 
@@ -75,9 +73,11 @@ object-before H l k v j C gs e = let s = put-shape H l k v j in by (s .0) (getD 
   by t (Cell.object D fs) g = (fs, cc)
   by t (Cell.contents u) g = let z : _≡_ {A = ℕ} 0 1 = cc in absurd (omega arith)
 
+-- a write keeps contents
 pub keeps-put : (H : Heap) (l : ℕ) (k v : Val) → KeepsContents H (putAt H l k v)
 keeps-put H l k v = record { contents = λ j t b e. let s = put-shape H l k v j in (s .0, s .1 ∙ ap (withTable (s .0)) e) }
 
+-- and so do new cells
 pub keeps-more : (H R : Heap) → KeepsContents H (H ++ R)
 keeps-more H R = record { contents = λ l t b e. (t, getD-append-left H R noCell l b ∙ e) }
 
@@ -86,20 +86,25 @@ module _ {A : Type 0} (P : Classes A) where
   pub grows-same : (H : Heap) → Grows P H H
   grows-same H = record { objects = λ l C fs e. (fs, e) }
 
+  -- and one growth after another is one
   pub grows-then : {H H′ H″ : Heap} → Grows P H H′ → Grows P H′ H″ → Grows P H H″
   grows-then g g′ = record { objects = λ l C fs e. let x = g .objects l C fs e in g′ .objects l C (x .0) (x .1) }
 
+  -- they do through a write
   pub grows-put : (H : Heap) (l : ℕ) (k v : Val) → Grows P H (putAt H l k v)
   grows-put H l k v = record { objects = λ j C fs e. let s = put-shape H l k v j in (s .0, s .1 ∙ ap (withTable (s .0)) e) }
 
+  -- and as cells are made
   pub grows-more : (H R : Heap) → Grows P H (H ++ R)
   grows-more H R = record { objects = λ l C fs e. (fs, getD-append-left H R noCell l (object-here H l e) ∙ e) }
 
+  -- values stay values
   pub fine-grows : {H H′ : Heap} {v : Val} → Grows P H H′ → Fine P H v → Fine P H′ v
   fine-grows g integer = integer
   fine-grows g text = text
   fine-grows g (object {l = l} {C = C} {fs = fs} e k) = object (g .objects l C fs e .1) k
 
+  -- and receivers receivers
   pub self-grows : {H H′ : Heap} {v : Val} → Grows P H H′ → Self P H v → Self P H′ v
   self-grows g (self {l = l} {C = C} {fs = fs} e m k) = self (g .objects l C fs e .1) m k
 
@@ -115,32 +120,28 @@ module _ {A : Type 0} (P : Classes A) where
   class-known text = refl
   class-known (object {l = l} e k) = ap (λ (x : Cell). known P (cellClass x)) e ∙ k
 
-  -- a sound heap: all cells are fine, and each Map has a cell behind it
-  pub record Sound (H : Heap) : Type 0 where
-    pub fine : FineHeap P H
-    pub backed : Backed H
-
+  -- a cell is fine in a heap that grew
   cell-grows : {H H′ : Heap} (l : ℕ) {x : Cell} → Backed H → Grows P H H′ → KeepsContents H H′ → getD H l noCell ≡ x → FineCell P H l x → FineCell P H′ l x
   cell-grows l b g c e (aMap {t = t} h) = aMap (c .contents (suc l) t (b .behind l _ e) h .1)
   cell-grows l b g c e (anObject {fs = fs} m k a) = anObject m k (all-weaker _ _ (λ p. field-grows p g) fs a)
   cell-grows l b g c e (itsContents {t = t} a) = itsContents (all-weaker _ _ (λ p h. (fine-grows g (h .0), fine-grows g (h .1))) t a)
 
   -- the cells of a heap are fine in one that grew from it
-  cells-grow : {H H′ : Heap} → Sound H → Grows P H H′ → KeepsContents H H′ → (l : ℕ) → l < length H → FineCell P H′ l (getD H l noCell)
+  cells-grow : {H H′ : Heap} → Sound P H → Grows P H H′ → KeepsContents H H′ → (l : ℕ) → l < length H → FineCell P H′ l (getD H l noCell)
   cells-grow h g c l b = cell-grows l (h .backed) g c refl (h .fine .cells l b)
 
-  parts : {H : Heap} {l : ℕ} {x : Cell} {C : List ℕ} {fs : Table} → FineCell P H l x → x ≡ Cell.object C fs → sameBytes C (codes "Map") ≡ false → (known P C ≡ true) × All (FineField P H) fs
+  parts : {H : Heap} {l : ℕ} {x : Cell} {C : List ℕ} {fs : Table} → FineCell P H l x → x ≡ Cell.object C fs → sameBytes C (codes "Map") ≡ false → (known P C ≡ true) × All (FineField P H) fs × Plain C
   parts {C = C} (aMap h) e m =
       let z : codes "Map" ≡ C = cc in
       absurd (both-ways _ m (ap (λ (D : List ℕ). sameBytes D (codes "Map")) (sym z)))
   parts {H} {C = C} {fs = gs} (anObject {C = D} {fs = fs} m k a) e n =
       let z : D ≡ C = cc in
       let y : fs ≡ gs = cc in
-      (subst (λ (B : List ℕ). known P B ≡ true) z k, subst (All (FineField P H)) y a)
+      (subst (λ (B : List ℕ). known P B ≡ true) z k, subst (All (FineField P H)) y a, subst Plain z m)
   parts (itsContents a) e m = let z : _≡_ {A = ℕ} 0 1 = cc in absurd (omega arith)
 
   -- an object that is no Map has a known class, and fields
-  pub object-parts : {H : Heap} (l : ℕ) {C : List ℕ} {fs : Table} → FineHeap P H → getD H l noCell ≡ Cell.object C fs → sameBytes C (codes "Map") ≡ false → (known P C ≡ true) × All (FineField P H) fs
+  pub object-parts : {H : Heap} (l : ℕ) {C : List ℕ} {fs : Table} → FineHeap P H → getD H l noCell ≡ Cell.object C fs → sameBytes C (codes "Map") ≡ false → (known P C ≡ true) × All (FineField P H) fs × Plain C
   object-parts {H} l h e m = parts (h .cells l (object-here H l e)) e m
 
   -- what a Map has
@@ -153,11 +154,16 @@ module _ {A : Type 0} (P : Classes A) where
   map-of {l = l} {fs = fs} (aMap {t = t} h) e = record { place = cc; table = t; contents = h }
   map-of (anObject {C = D} m k a) e =
       let z : D ≡ codes "Map" = cc in
-      absurd (both-ways _ m (ap (λ (B : List ℕ). sameBytes B (codes "Map")) z))
+      absurd (both-ways _ (m .0) (ap (λ (B : List ℕ). sameBytes B (codes "Map")) z))
   map-of (itsContents a) e = let z : _≡_ {A = ℕ} 0 1 = cc in absurd (omega arith)
 
+  -- a Map has its contents behind it
   pub map-parts : {H : Heap} (l : ℕ) {fs : Table} → FineHeap P H → getD H l noCell ≡ Cell.object (codes "Map") fs → MapParts H l fs
   map-parts {H} l h e = map-of (h .cells l (object-here H l e)) e
+
+  -- so its table says where its contents are
+  pub read-map : {H : Heap} (l : ℕ) {fs : Table} → FineHeap P H → getD H l noCell ≡ Cell.object (codes "Map") fs → store.read (tablesOf P H) (classCount P + l) contentsKey ≡ Some (Val.location (classCount P + suc l))
+  read-map {H} l h e = read-contents P H l (e ∙ ap (Cell.object (codes "Map")) (map-parts l h e .place))
 
   keys-of : {H : Heap} {l : ℕ} {x : Cell} {t : Table} → FineCell P H l x → x ≡ Cell.contents t → All (λ p. Fine P H (p .0) × Fine P H (p .1)) t
   keys-of (aMap h) e = let z : _≡_ {A = ℕ} 0 1 = cc in absurd (omega arith)
@@ -180,15 +186,16 @@ module _ {A : Type 0} (P : Classes A) where
   field-with v f (Val.identifier i, w) h = h
   field-with v f (Val.location l, w) h = h
 
-  -- what a field or a key holds is a value
+  -- what a field holds is a value
   pub field-fine : {H : Heap} (l : ℕ) {C : List ℕ} {fs : Table} (k : Val) {v : Val} → FineHeap P H → getD H l noCell ≡ Cell.object C fs → sameBytes C (codes "Map") ≡ false → look k fs ≡ Some v → Fine P H v
   field-fine {H} l {C} {fs} k {v} h e m g = look-all (Fine P H) fs k v (all-weaker _ _ field-value fs (object-parts l h e m .1)) g
 
+  -- so is what a key holds
   pub key-fine : {H : Heap} (l : ℕ) {t : Table} (k : Val) {v : Val} → FineHeap P H → l < length H → getD H l noCell ≡ Cell.contents t → look k t ≡ Some v → Fine P H v
   key-fine {H} l {t} k {v} h b e g = look-all (Fine P H) t k v (all-weaker _ _ (λ p q. q .1) t (contents-parts l h b e)) g
 
   -- a write keeps a heap sound, if the cell that is written is fine
-  sound-put : {H : Heap} (l : ℕ) (k v : Val) (x : Cell) → Sound H → l < length H → getD H l noCell ≡ x → FineCell P (putAt H l k v) l (withTable (put k v (cellTable x)) x) → Sound (putAt H l k v)
+  sound-put : {H : Heap} (l : ℕ) (k v : Val) (x : Cell) → Sound P H → l < length H → getD H l noCell ≡ x → FineCell P (putAt H l k v) l (withTable (put k v (cellTable x)) x) → Sound P (putAt H l k v)
   sound-put {H} l k v x h b e f = record {
     fine = record { cells = here; bot = grows-put H l k v .objects 0 (codes "Bot") (h .fine .bot .0) (h .fine .bot .1) };
     backed = record { behind = λ j fs g. let o = object-before H l k v j (codes "Map") fs g in omega (arith, h .backed .behind j (o .0) (o .1), length-putAt H l k v) };
@@ -206,16 +213,16 @@ module _ {A : Type 0} (P : Classes A) where
         (cases-eq j l)
 
   -- a field of an object that is no Map is written
-  pub sound-field : {H : Heap} (l : ℕ) {C : List ℕ} {fs : Table} (x : List ℕ) {v : Val} → Sound H → getD H l noCell ≡ Cell.object C fs → sameBytes C (codes "Map") ≡ false → FieldName x → Fine P H v → Sound (putAt H l (Val.string x) v)
+  pub sound-field : {H : Heap} (l : ℕ) {C : List ℕ} {fs : Table} (x : List ℕ) {v : Val} → Sound P H → getD H l noCell ≡ Cell.object C fs → sameBytes C (codes "Map") ≡ false → FieldName x → Fine P H v → Sound P (putAt H l (Val.string x) v)
   sound-field {H} l {C} {fs} x {v} h e m n f =
       let o = object-parts l (h .fine) e m in
       let g = grows-put H l (Val.string x) v in
       let a = all-weaker _ _ (λ p. field-grows p g) fs (o .1) in
       sound-put l (Val.string x) v (Cell.object C fs) h (object-here H l e) e
-      (anObject m (o .0) (put-all _ fs (Val.string x) v (field-with v (fine-grows g f)) a (n, fine-grows g f)))
+      (anObject (o .2) (o .0) (put-all _ fs (Val.string x) v (field-with v (fine-grows g f)) a (n, fine-grows g f)))
 
   -- a key of a Map's contents is written
-  pub sound-key : {H : Heap} (l : ℕ) {t : Table} {k v : Val} → Sound H → l < length H → getD H l noCell ≡ Cell.contents t → Fine P H k → Fine P H v → Sound (putAt H l k v)
+  pub sound-key : {H : Heap} (l : ℕ) {t : Table} {k v : Val} → Sound P H → l < length H → getD H l noCell ≡ Cell.contents t → Fine P H k → Fine P H v → Sound P (putAt H l k v)
   sound-key {H} l {t} {k} {v} h b e f f′ =
       let g = grows-put H l k v in
       let a = all-weaker _ _ (λ p q. (fine-grows g (q .0), fine-grows g (q .1))) t (contents-parts l (h .fine) b e) in
@@ -223,7 +230,7 @@ module _ {A : Type 0} (P : Classes A) where
       (itsContents (put-all _ t k v (λ p q. (q .0, fine-grows g f′)) a (fine-grows g f, fine-grows g f′)))
 
   -- cells behind a sound heap, each fine there, the Maps among them with a cell behind
-  sound-more : {H : Heap} (R : Heap) → Sound H → ((i : ℕ) → i < length R → FineCell P (H ++ R) (length H + i) (getD R i noCell)) → ((i : ℕ) (fs : Table) → getD R i noCell ≡ Cell.object (codes "Map") fs → suc i < length R) → Sound (H ++ R)
+  sound-more : {H : Heap} (R : Heap) → Sound P H → ((i : ℕ) → i < length R → FineCell P (H ++ R) (length H + i) (getD R i noCell)) → ((i : ℕ) (fs : Table) → getD R i noCell ≡ Cell.object (codes "Map") fs → suc i < length R) → Sound P (H ++ R)
   sound-more {H} R h f m = record {
     fine = record { cells = here; bot = grows-more H R .objects 0 (codes "Bot") (h .fine .bot .0) (h .fine .bot .1) };
     backed = record { behind = within };
@@ -252,7 +259,7 @@ module _ {A : Type 0} (P : Classes A) where
         (cases-lt j (length H))
 
   -- a new object of a known class
-  pub sound-object : {H : Heap} (C : List ℕ) → Sound H → known P C ≡ true → sameBytes C (codes "Map") ≡ false → Sound (H ++ Cell.object C [] ∷ [])
+  pub sound-object : {H : Heap} (C : List ℕ) → Sound P H → known P C ≡ true → Plain C → Sound P (H ++ Cell.object C [] ∷ [])
   sound-object {H} C h k m = sound-more (Cell.object C [] ∷ []) h cells maps where
     cells : (i : ℕ) → i < 1 → FineCell P (H ++ Cell.object C [] ∷ []) (length H + i) (getD (Cell.object C [] ∷ []) i noCell)
     cells zero b = anObject m k tt
@@ -261,11 +268,11 @@ module _ {A : Type 0} (P : Classes A) where
     maps : (i : ℕ) (fs : Table) → getD (Cell.object C [] ∷ []) i noCell ≡ Cell.object (codes "Map") fs → suc i < 1
     maps zero fs e =
         let z : C ≡ codes "Map" = cc in
-        absurd (both-ways _ m (ap (λ (B : List ℕ). sameBytes B (codes "Map")) z))
+        absurd (both-ways _ (m .0) (ap (λ (B : List ℕ). sameBytes B (codes "Map")) z))
     maps (suc i) fs e = let z : _≡_ {A = ℕ} 0 1 = cc in absurd (omega arith)
 
   -- a new Map with its contents
-  pub sound-map : {H : Heap} → Sound H → Sound (H ++ cellsOf (codes "Map") H)
+  pub sound-map : {H : Heap} → Sound P H → Sound P (H ++ cellsOf (codes "Map") H)
   sound-map {H} h = sound-more (cellsOf (codes "Map") H) h cells maps where
     behind : getD (H ++ cellsOf (codes "Map") H) (suc (length H)) noCell ≡ Cell.contents []
     behind =
@@ -285,21 +292,21 @@ module _ {A : Type 0} (P : Classes A) where
     maps (suc (suc i)) fs e = let z : _≡_ {A = ℕ} 0 1 = cc in absurd (omega arith)
 
   -- an object of any known class
-  pub sound-make : {H : Heap} (C : List ℕ) → Sound H → known P C ≡ true → Sound (H ++ cellsOf C H)
-  sound-make {H} C h k = by (sameBytes C (codes "Map")) refl where
-    by : (b : Bool) → sameBytes C (codes "Map") ≡ b → Sound (H ++ cellsOf C H)
+  pub sound-make : {H : Heap} (C : List ℕ) → Sound P H → known P C ≡ true → sameBytes C (codes "String") ≡ false → sameBytes C (codes "Integer") ≡ false → Sound P (H ++ cellsOf C H)
+  sound-make {H} C h k s i = by (sameBytes C (codes "Map")) refl where
+    by : (b : Bool) → sameBytes C (codes "Map") ≡ b → Sound P (H ++ cellsOf C H)
     by true e = rw (sameBytes-decides C (codes "Map") .0 e) (sound-map h)
-    by false e = rw (cells-object C H e) (sound-object C h k e)
+    by false e = rw (cells-object C H e) (sound-object C h k (e, s, i))
 
   -- nil and the top-level self
-  pub sound-first : Sound firstHeap
+  pub sound-first : Sound P firstHeap
   sound-first = record {
     fine = record { cells = cells; bot = ([], refl) };
     backed = record { behind = maps };
   } where
     cells : (l : ℕ) → l < 2 → FineCell P firstHeap l (getD firstHeap l noCell)
-    cells zero b = anObject refl refl tt
-    cells (suc zero) b = anObject refl refl tt
+    cells zero b = anObject (refl, refl, refl) refl tt
+    cells (suc zero) b = anObject (refl, refl, refl) refl tt
     cells (suc (suc l)) b = absurd (omega arith)
 
     maps : (l : ℕ) (fs : Table) → getD firstHeap l noCell ≡ Cell.object (codes "Map") fs → suc l < 2
@@ -308,3 +315,14 @@ module _ {A : Type 0} (P : Classes A) where
         let z : codes "Object" ≡ codes "Map" = cc in
         absurd (both-ways _ refl (ap (λ (B : List ℕ). sameBytes B (codes "Map")) z))
     maps (suc (suc l)) fs e = let z : _≡_ {A = ℕ} 0 1 = cc in absurd (omega arith)
+
+  -- what was just made is a value
+  pub made-fine : (H : Heap) (C : List ℕ) → known P C ≡ true → Fine P (H ++ cellsOf C H) (Val.location (length H))
+  made-fine H C k = by (sameBytes C (codes "Map")) refl where
+    by : (b : Bool) → sameBytes C (codes "Map") ≡ b → Fine P (H ++ cellsOf C H) (Val.location (length H))
+    by true e = rw (sameBytes-decides C (codes "Map") .0 e) (object (getD-at H _ (Cell.contents [] ∷ []) noCell (length H) refl) refl)
+    by false e = rw (cells-object C H e) (object (new-object H C) k)
+
+  -- and can be a receiver of written methods if it is no Map
+  pub made-self : (H : Heap) (C : List ℕ) → known P C ≡ true → sameBytes C (codes "Map") ≡ false → Self P (H ++ cellsOf C H) (Val.location (length H))
+  made-self H C k m = rw (cells-object C H m) (self (new-object H C) m k)

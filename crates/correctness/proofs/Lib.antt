@@ -24,3 +24,7 @@ pub mod Fitted
 pub mod Spelling
 pub mod CodeLength
 pub mod GlobalsUsed
+pub mod Laying
+pub mod Orderly
+pub mod StartUp
+pub mod Objects

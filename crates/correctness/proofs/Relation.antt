@@ -20,6 +20,10 @@ use Rattle.rube.specs.Evaluation.{State}
 use Rattle.compiler.specs.Layout.{classKey, nameKey, contentsKey, mark, nilGlobal, classGlobal, placeIn, slot, free, functionOf}
 use Rattle.correctness.specs.Fitting.{FieldName}
 
+-- a class whose objects have fields: an Integer and a String are values, a Map has contents
+abbrev pub Plain : List ℕ → Type 0
+Plain C = (sameBytes C (codes "Map") ≡ false) × (sameBytes C (codes "String") ≡ false) × (sameBytes C (codes "Integer") ≡ false)
+
 -- behind each Map stands a cell
 pub record Backed (H : Heap) : Type 0 where
   pub behind : (l : ℕ) (fs : Table) → getD H l noCell ≡ Cell.object (codes "Map") fs → suc l < length H
@@ -81,7 +85,7 @@ module _ {A : Type 0} (P : Classes A) where
   -- a Map has its contents right behind it; any other object has fields
   pub data FineCell (H : Heap) (l : ℕ) : Cell → Type 0 where
     aMap : {t : Table} → getD H (suc l) noCell ≡ Cell.contents t → FineCell H l (Cell.object (codes "Map") ((contentsKey, Val.location (suc l)) ∷ []))
-    anObject : {C : List ℕ} {fs : Table} → sameBytes C (codes "Map") ≡ false → known P C ≡ true → All (FineField H) fs → FineCell H l (Cell.object C fs)
+    anObject : {C : List ℕ} {fs : Table} → Plain C → known P C ≡ true → All (FineField H) fs → FineCell H l (Cell.object C fs)
     itsContents : {t : Table} → All (λ p. Fine H (p .0) × Fine H (p .1)) t → FineCell H l (Cell.contents t)
 
   pub record FineHeap (H : Heap) : Type 0 where

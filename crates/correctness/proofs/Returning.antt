@@ -61,7 +61,7 @@ module _ {A : Type 0} (P : Classes A) (L : Limits) where
   pub grows-same : {H : Heap} → Grows P H H
   grows-same = record { objects = λ l C fs e. (fs, e) }
 
-  all-grows : {H H′ : Heap} (t : Table) → Grows P H H′ → All (λ p. Fine P H (p .1)) t → All (λ p. Fine P H′ (p .1)) t
+  pub all-grows : {H H′ : Heap} (t : Table) → Grows P H H′ → All (λ p. Fine P H (p .1)) t → All (λ p. Fine P H′ (p .1)) t
   all-grows [] g a = tt
   all-grows (p ∷ t) g a = (fine-grows g (a .0), all-grows t g (a .1))
 

@@ -27,7 +27,7 @@ use Rattle.rube.specs.Meaning.{cellsOf}
 use Rattle.compiler.specs.Layout.{classKey, contentsKey}
 use Rattle.correctness.specs.Fitting.{FieldName}
 use Rattle.correctness.proofs.Relation.{shift, tablesOf}
-use Rattle.correctness.proofs.Tabled.{length-tables, length-made, no-contents-yet, pairs-tables, cell-here, object-table-here, read-field, read-key}
+use Rattle.correctness.proofs.Tabled.{cells-object, length-tables, length-made, no-contents-yet, pairs-tables, cell-here, object-table-here, read-field, read-key}
 
 -- a write takes a pair where the key is new
 pub length-put : (k v : Val) (t : Table) → length (put k v t) ≡ length t + newPairs k t
@@ -36,6 +36,7 @@ length-put k v t = by (look k t) refl where
   by None e = length-put-new k v t e
   by (Some w) e = length-put-present k v t (ap isSome e) ∙ omega arith
 
+-- pairs of two parts of a heap
 pub heapPairs-append : (H R : Heap) → heapPairs (H ++ R) ≡ heapPairs H + heapPairs R
 unfolding heapPairs
 heapPairs-append [] R = omega arith
@@ -91,6 +92,7 @@ module _ {A : Type 0} (P : Classes A) (L : Limits) where
     pub tables : length (tablesOf P H) + t ≤ L .tables
     pub pairs : pairs (tablesOf P H) + p ≤ L .pairs
 
+  -- that is what it means to fit
   pub fits-decides : (H : Heap) (t p : ℕ) → Decides (fits within H t p) (Room H t p)
   unfolding fits
   fits-decides H t p =
@@ -105,25 +107,27 @@ module _ {A : Type 0} (P : Classes A) (L : Limits) where
   fits-from : (H : Heap) (t p : ℕ) → length (tablesOf P H) + t ≤ L .tables → pairs (tablesOf P H) + p ≤ L .pairs → fits within H t p ≡ true
   fits-from H t p a b = fits-decides H t p .1 (record { tables = a; pairs = b })
 
-  -- what has room has it with less, and what has none has none with more
+  -- what has room has it with less
   pub fits-less : (H : Heap) (t p t′ p′ : ℕ) → t ≤ t′ → p ≤ p′ → fits within H t′ p′ ≡ true → fits within H t p ≡ true
   fits-less H t p t′ p′ a b e =
       let r = fits-decides H t′ p′ .0 e in
       fits-from H t p (omega (arith, r .tables)) (omega (arith, r .pairs))
 
+  -- what has none has none with more
   pub fits-not-more : (H : Heap) (t p t′ p′ : ℕ) → t ≤ t′ → p ≤ p′ → fits within H t p ≡ false → fits within H t′ p′ ≡ false
   fits-not-more H t p t′ p′ a b e = by (fits within H t′ p′) refl where
     by : (c : Bool) → fits within H t′ p′ ≡ c → c ≡ false
     by true q = absurd (both-ways _ e (fits-less H t p t′ p′ a b q))
     by false q = refl
 
-  -- one more table finds room where it fits, and so does one more pair
+  -- one more table finds room where it fits
   pub table-fits : (H : Heap) → fits within H 0 0 ≡ true → ltb (length (tablesOf P H)) (L .tables) ≡ fits within H 1 0
   table-fits H e =
       let r = fits-decides H 0 0 .0 e in
       same-from-decides _ _ (decides-ltb (length (tablesOf P H)) (L .tables))
       (decides-like _ (λ (q : Room H 1 0). omega (arith, q .tables)) (λ b. record { tables = omega arith; pairs = omega (arith, r .pairs) }) (fits-decides H 1 0))
 
+  -- one more pair finds room where it fits
   pub pair-fits : (H : Heap) → fits within H 0 0 ≡ true → ltb (pairs (tablesOf P H)) (L .pairs) ≡ fits within H 0 1
   pair-fits H e =
       let r = fits-decides H 0 0 .0 e in
@@ -140,11 +144,13 @@ module _ {A : Type 0} (P : Classes A) (L : Limits) where
     by None q = takes-new (L .pairs) (tablesOf P H) l key here q ∙ pair-fits H e
     by (Some v) q = takes-present (L .pairs) (tablesOf P H) l key here (ap isSome q) ∙ sym e
 
+  -- so a write of a field finds room where the meaning says
   pub takes-field : (H : Heap) (l : ℕ) {C : List ℕ} {fs : Table} (x : List ℕ) → fits within H 0 0 ≡ true → getD H l noCell ≡ Cell.object C fs → FieldName x → takes (L .pairs) (tablesOf P H) (classCount P + l) (Val.string x) ≡ fits within H 0 (newPairs (Val.string x) (fieldsOf H l))
   takes-field H l {C} {fs} x s e n =
       takes-is H (classCount P + l) (Val.string x) fs (Val.string x) s (object-table-here P H l e) (read-field P H l x e n)
       ∙ ap (λ (y : Cell). fits within H 0 (newPairs (Val.string x) (cellTable y))) (sym e)
 
+  -- and so does a write of a key
   pub takes-key : (H : Heap) (l : ℕ) {t : Table} (k : Val) → fits within H 0 0 ≡ true → l < length H → getD H l noCell ≡ Cell.contents t → takes (L .pairs) (tablesOf P H) (classCount P + l) (shift P k) ≡ fits within H 0 (newPairs k (fieldsOf H l))
   takes-key H l {t} k s b e =
       takes-is H (classCount P + l) k t (shift P k) s (cell-here P H l b) (read-key P H l k b e)
@@ -199,6 +205,10 @@ module _ {A : Type 0} (P : Classes A) (L : Limits) where
   makes-class H e =
       makes H (classCount P + length H) classKey e (omega (arith, length-tables P H))
       (read-unmade (tablesOf P H) (classCount P + length H) classKey (le-ltb _ _ (omega (arith, length-tables P H))))
+
+  -- the same of a class that is not Map
+  pub makes-object : (C : List ℕ) (H : Heap) → fits within H 0 0 ≡ true → sameBytes C (codes "Map") ≡ false → Makes L (tablesOf P H) (classCount P + length H) classKey (fits within H (length (cellsOf C H)) (length (cellsOf C H)))
+  makes-object C H e m = rw (cells-object C H m) (makes-class H e)
 
   -- an object that is no Map takes one table and one pair
   pub fits-object : (C : List ℕ) (H : Heap) (t p : ℕ) → fits within (H ++ Cell.object C [] ∷ []) t p ≡ fits within H (suc t) (suc p)

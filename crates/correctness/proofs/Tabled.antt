@@ -33,6 +33,7 @@ place-below (D ∷ Ds) C h = by (sameBytes D C) (place-below Ds C) h where
   by true f g = omega arith
   by false f g = omega (arith, f g)
 
+-- and is what stands there
 pub at-place : (Cs : List (List ℕ)) (C : List ℕ) → among Cs C ≡ true → getD Cs (placeIn Cs C) [] ≡ C
 at-place [] C h = let z : _≡_ {A = ℕ} 0 1 = cc in absurd (omega arith)
 at-place (D ∷ Ds) C h = by (sameBytes D C) refl (at-place Ds C) h where
@@ -71,6 +72,7 @@ pub cells-object : (C : List ℕ) (H : Heap) → sameBytes C (codes "Map") ≡ f
 cells-object C H h = cond-false (sameBytes C (codes "Map")) _ _ h
 
 module _ {A : Type 0} (P : Classes A) where
+  -- a table for each class and each cell
   pub length-tables : (H : Heap) → length (tablesOf P H) ≡ classCount P + length H
   unfolding tablesOf classTables
   length-tables H = simp (length-append, length-map)
@@ -100,9 +102,11 @@ module _ {A : Type 0} (P : Classes A) where
   pub class-made : (C : List ℕ) → known P C ≡ true → placeIn (classNames P) C < classCount P
   class-made C h = place-below (classNames P) C h
 
+  -- so a known class has a table, whatever the heap
   pub class-here : (H : Heap) (C : List ℕ) → known P C ≡ true → placeIn (classNames P) C < length (tablesOf P H)
   class-here H C h = omega (arith, class-made C h, length-tables H)
 
+  -- which holds what the class has
   pub table-of-class : (H : Heap) (C : List ℕ) → known P C ≡ true → getD (tablesOf P H) (placeIn (classNames P) C) [] ≡ classTable P C
   unfolding tablesOf classTables
   table-of-class H C h =
@@ -112,6 +116,7 @@ module _ {A : Type 0} (P : Classes A) where
       ∙ getD-map (classTable P) (classNames P) (placeIn (classNames P) C) [] [] b
       ∙ ap (classTable P) (at-place (classNames P) C h)
 
+  -- a read of a class table
   pub read-class : (H : Heap) (C : List ℕ) (k : Val) → known P C ≡ true → store.read (tablesOf P H) (placeIn (classNames P) C) k ≡ look k (classTable P C)
   read-class H C k h = ap (look k) (table-of-class H C h)
 
@@ -139,6 +144,7 @@ module _ {A : Type 0} (P : Classes A) where
       rw (string-key (m .name) x, look-methods x ms)
       (through-cond (mapped (λ f. Val.identifier (functionOf f))) (sameBytes (m .name) x) (Some (m .callee)) (find x ms))
 
+  -- under a method's name a class table holds the function of the method that the class finds
   pub read-method : (C x : List ℕ) → MethodName x → look (Val.string x) (classTable P C) ≡ mapped (λ f. Val.identifier (functionOf f)) (lookup P C x)
   unfolding look
   read-method C x h = rw (method-no-name x h) (look-methods x (visible P C))
@@ -151,6 +157,7 @@ module _ {A : Type 0} (P : Classes A) where
       ∙ getD-append-add (map (classTable P) (classNames P)) (map (tableOf P) H) l []
       ∙ getD-map (tableOf P) H l noCell [] b
 
+  -- a cell of the heap has a table
   pub cell-here : (H : Heap) (l : ℕ) → l < length H → classCount P + l < length (tablesOf P H)
   cell-here H l b = omega (arith, length-tables H)
 
@@ -172,6 +179,7 @@ module _ {A : Type 0} (P : Classes A) where
   read-cell : (H : Heap) (l : ℕ) (k : Val) (x : Cell) → l < length H → getD H l noCell ≡ x → store.read (tablesOf P H) (classCount P + l) k ≡ look k (tableOf P x)
   read-cell H l k x b e = ap (look k) (table-of-cell H l b ∙ ap (tableOf P) e)
 
+  -- so has an object
   pub object-table-here : (H : Heap) (l : ℕ) {C : List ℕ} {fs : Table} → getD H l noCell ≡ Cell.object C fs → classCount P + l < length (tablesOf P H)
   object-table-here H l e = cell-here H l (object-here H l e)
 
@@ -192,9 +200,11 @@ module _ {A : Type 0} (P : Classes A) where
       write-cell H l (shift P k) (shift P v) (Cell.object C fs) (Cell.object C (put k v fs)) (object-here H l e) e (rw (d, put-shift P k v fs))
       ∙ ap (λ (x : Cell). tablesOf P (set H l (withTable (put k v (cellTable x)) x))) (sym e)
 
+  -- a read of a field
   pub read-field : (H : Heap) (l : ℕ) {C : List ℕ} {fs : Table} (x : List ℕ) → getD H l noCell ≡ Cell.object C fs → FieldName x → store.read (tablesOf P H) (classCount P + l) (Val.string x) ≡ mapped (shift P) (look (Val.string x) fs)
   read-field H l x e n = read-other H l (Val.string x) e (field-no-class x n)
 
+  -- a write of a field
   pub write-field : (H : Heap) (l : ℕ) {C : List ℕ} {fs : Table} (x : List ℕ) (v : Val) → getD H l noCell ≡ Cell.object C fs → FieldName x → store.write (tablesOf P H) (classCount P + l) (Val.string x) (shift P v) ≡ tablesOf P (putAt H l (Val.string x) v)
   write-field H l x v e n = write-other H l (Val.string x) v e (field-no-class x n)
 
@@ -207,6 +217,7 @@ module _ {A : Type 0} (P : Classes A) where
   pub read-key : (H : Heap) (l : ℕ) {t : Table} (k : Val) → l < length H → getD H l noCell ≡ Cell.contents t → store.read (tablesOf P H) (classCount P + l) (shift P k) ≡ mapped (shift P) (look k t)
   read-key H l {t} k b e = read-cell H l (shift P k) (Cell.contents t) b e ∙ look-shift P k t
 
+  -- a write of a key
   pub write-key : (H : Heap) (l : ℕ) {t : Table} (k v : Val) → l < length H → getD H l noCell ≡ Cell.contents t → store.write (tablesOf P H) (classCount P + l) (shift P k) (shift P v) ≡ tablesOf P (putAt H l k v)
   write-key H l {t} k v b e =
       write-cell H l (shift P k) (shift P v) (Cell.contents t) (Cell.contents (put k v t)) b e (put-shift P k v t)
@@ -230,6 +241,15 @@ module _ {A : Type 0} (P : Classes A) where
   pub length-made : (H : Heap) (x : Cell) → length (tablesOf P (H ++ x ∷ [])) ≡ classCount P + suc (length H)
   length-made H x = length-tables (H ++ x ∷ []) ∙ simp length-append (omega arith)
 
+  -- the table that was just made is there, and stays there
+  pub new-table-here : (H : Heap) → classCount P + length H < length (tablesOf P H ++ [] ∷ [])
+  new-table-here H = omega (arith, length-append (tablesOf P H) ([] ∷ []), length-tables H)
+
+  -- and when one more is made
+  pub old-table-here : (H : Heap) (x : Cell) → classCount P + length H < length (tablesOf P (H ++ x ∷ []) ++ [] ∷ [])
+  old-table-here H x = omega (arith, length-append (tablesOf P (H ++ x ∷ [])) ([] ∷ []), length-made H x)
+
+  -- an object just made has no contents
   pub no-contents-yet : (H : Heap) (C : List ℕ) → store.read (tablesOf P (H ++ Cell.object C [] ∷ [])) (classCount P + length H) contentsKey ≡ None
   unfolding look
   no-contents-yet H C = read-other (H ++ Cell.object C [] ∷ []) (length H) contentsKey (new-object H C) contents-no-class

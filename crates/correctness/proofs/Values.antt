@@ -46,11 +46,13 @@ unfolding equalVal equalBytes
 field-no-class [] h = absurd h
 field-no-class (b ∷ x) h = rw h
 
+-- no field is called as a Map's contents are
 pub field-no-contents : (x : List ℕ) → FieldName x → equalVal contentsKey (Val.string x) ≡ false
 unfolding equalVal equalBytes
 field-no-contents [] h = absurd h
 field-no-contents (b ∷ x) h = rw h
 
+-- nor are those called as the class is
 pub contents-no-class : equalVal classKey contentsKey ≡ false
 unfolding equalVal equalBytes
 contents-no-class = refl
@@ -103,6 +105,7 @@ module _ {A : Type 0} (P : Classes A) where
       rw (equal-shift (p .0) k, look-shift k t)
       (through-cond (mapped (shift P)) (equalVal (p .0) k) (Some (p .1)) (look k t))
 
+  -- and a write moved up is the write, moved up
   pub put-shift : (k v : Val) (t : Table) → put (shift P k) (shift P v) (shiftTable P t) ≡ shiftTable P (put k v t)
   unfolding put
   put-shift k v [] = refl
