@@ -23,7 +23,7 @@ use Rattle.machine.specs.declared.arith.Op.the-variants.{Add, Sub, Mul, Div}
 use Rattle.machine.specs.declared.builtin.Builtin.{Builtin}
 use Rattle.machine.specs.declared.builtin.Builtin.the-variants as own
 use Rattle.machine.specs.declared.ending.Ending.{Ending}
-use Rattle.machine.specs.declared.ending.Ending.the-variants.{WrongArgumentKind, NoTextSpace, NoOutputSpace, DivisionByZero}
+use Rattle.machine.specs.declared.ending.Ending.the-variants.{WrongArgumentKind, NoTableSpace, NoTextSpace, NoOutputSpace, DivisionByZero}
 use Rattle.machine.specs.declared.instruction.Kind.{Kind}
 use Rattle.machine.specs.Limits.{Limits, registersPerFrame}
 use Rattle.machine.specs.Outcome.{Outcome, unless}
@@ -54,11 +54,12 @@ use Rattle.rube.specs.declared.builtin.Operation.the-variants.{
   Has as HasKey,
 }
 use Rattle.rube.specs.Classes.{Classes, classNames, classCount, known}
-use Rattle.rube.specs.Heap.{Cell, Heap, Setting, nil, noCell, fits}
+use Rattle.rube.specs.Heap.{Cell, Heap, Setting, nil, noCell, fieldsOf, fits, newPairs, putAt}
 use Rattle.rube.specs.Heap as heap
-use Rattle.rube.specs.Evaluation.{State, Res, val, end, _>>=_, withEffects, outcome, effect}
-use Rattle.rube.specs.Methods.{makeString, printText, perform}
-use Rattle.compiler.specs.Pieces.{number, require, truthInto}
+use Rattle.rube.specs.Evaluation as evaluation
+use Rattle.rube.specs.Evaluation.{State, Res, val, end, _>>=_, withHeap, withEffects, outcome, effect}
+use Rattle.rube.specs.Methods.{keyed, perform}
+use Rattle.compiler.specs.Pieces.{number, nilInto, require, truthInto}
 use Rattle.compiler.specs.Layout.{classKey, nameKey, contentsKey, placeIn}
 use Rattle.compiler.specs.Builtins.{ask, classNameInto, printFive, contentsInto, operationCode}
 use Rattle.correctness.proofs.Relation.{shift, world, Globals, Fine, integer, text, object, Sound, Grows}
@@ -69,6 +70,8 @@ use Rattle.correctness.proofs.Returning.{Except, has-except, grows-same, Back}
 use Rattle.correctness.proofs.Classed.{except-two}
 use Rattle.correctness.proofs.Values.{equal-shift, some-mapped}
 use Rattle.correctness.proofs.Tabled.{object-table-here, cell-here, class-here, read-class, read-name, read-object-class, read-contents, read-key, write-key}
+use Rattle.correctness.proofs.Heaps.{key-fine, sound-key, grows-put}
+use Rattle.correctness.proofs.Space.{takes-key, fits-after-put}
 use Rattle.correctness.proofs.Forms.{nil-fine}
 use Rattle.correctness.proofs.Fields.{truth-fine}
 use Rattle.correctness.proofs.Receivers.{ObjectAt, MapAt, Suits}
@@ -325,3 +328,53 @@ module _ {A : Type 0} (P : Classes A) (L : Limits) (C : Program) (G : Table) (gl
         (rw (read-key P (s .heap) (suc l) v (z .behind) (z .contents), some-mapped (shift P) (look v (z .table)))
         (truth-then P L C G s b globals (omega arith) (u .left) (has-written R′ 5 (truth b))
         (ret-then (s .effects) (heap.truth b) (head (u .right)) (has-written (write R′ 5 (truth b)) 5 (shift P (heap.truth b))) (truth-fine P L C G globals b (nil-fine P L C G globals (heap-sound .fine))))))))
+
+    -- the value under a key, or the run ends
+    found-then : {g p q l : ℕ} {R : Registers} (v : Val) (y : Option Val) (z : MapAt P (s .heap) l) → look v (z .table) ≡ y → Seg C g p (Instr.hasTab 5 4 2 ∷ (require 5 7 ++ (Instr.rdTab 5 4 2 ∷ Instr.ret 5 ∷ []))) q
+        → Has R 4 (Val.location (classCount P + suc l)) → Has R 2 (shift P v) → Answers (From g p R s) 38 (keyed y s)
+    found-then {l = l} {R = R} v None z d e h i =
+        let u = split (require 5 7) _ (tail e) in
+        step-then (do-hasTab (head e) (omega arith) h (cell-here P (s .heap) (suc l) (z .behind)) i)
+        (rw (read-key P (s .heap) (suc l) v (z .behind) (z .contents), d)
+        (require-then P L C G {x = val nil s} s false refl (omega arith) (u .left) (has-written R 5 (truth false)) (λ b. absurd (false≢true b))))
+    found-then {l = l} {R = R} v (Some w) z d e h i =
+        let u = split (require 5 7) _ (tail e) in
+        let here = cell-here P (s .heap) (suc l) (z .behind) in
+        let R₁ = write R 5 (truth true) in
+        let is = read-key P (s .heap) (suc l) v (z .behind) (z .contents) ∙ ap (mapped (shift P)) d in
+        let h₁ = has-other R 5 4 (truth true) (λ n. omega arith) h in
+        let i₁ = has-other R 5 2 (truth true) (λ n. omega arith) i in
+        step-then (do-hasTab (head e) (omega arith) h here i)
+        (rw is
+        (require-then P L C G s true refl (omega arith) (u .left) (has-written R 5 (truth true))
+        (λ _. step-then (do-rdTab (head (u .right)) (omega arith) h₁ here i₁ is)
+        (ret-then (s .effects) w (head (tail (u .right))) (has-written R₁ 5 (shift P w)) (key-fine P (suc l) v (heap-sound .fine) (z .behind) (z .contents) d)))))
+
+    find-good : {g p q l : ℕ} {R : Registers} (v w : Val) → MapAt P (s .heap) l → Seg C g p (operationCode Find) q → Has R 1 (Val.location (classCount P + l)) → Has R 2 (shift P v) → Answers (From g p R s) 40 (perform setting Find (Val.location l) v w s)
+    unfolding operationCode perform
+    find-good v w z e h i =
+        let y = split contentsInto _ e in
+        rw (z .contents)
+        (contents-then z (y .left) h (λ R′ x h′. found-then v _ z refl (y .right) h′ (has-except (λ n. omega arith) x i)))
+
+    -- a key is written where it finds room
+    written-then : {g p q l : ℕ} {R : Registers} (v w : Val) (b : Bool) (z : MapAt P (s .heap) l) → fits setting (s .heap) 0 (newPairs v (fieldsOf (s .heap) (suc l))) ≡ b → Fine P (s .heap) v → Fine P (s .heap) w
+        → Seg C g p (Instr.wrTab 4 2 3 ∷ nilInto 5 ∷ Instr.ret 5 ∷ []) q → Has R 4 (Val.location (classCount P + suc l)) → Has R 2 (shift P v) → Has R 3 (shift P w)
+        → Answers (From g p R s) 38 (evaluation.unless NoTableSpace b s (val nil (withHeap (putAt (s .heap) (suc l) v w) s)))
+    written-then {l = l} v w false z d fv fw e h i j =
+        ending refl (end-wrTab (head e) h (cell-here P (s .heap) (suc l) (z .behind)) i j (takes-key P L (s .heap) (suc l) v space (z .behind) (z .contents) ∙ d))
+    written-then {l = l} {R = R} v w true z d fv fw e h i j =
+        let H = s .heap in
+        let sound = sound-key P (suc l) heap-sound (z .behind) (z .contents) fv fw in
+        step-then (do-wrTab (head e) h (cell-here P H (suc l) (z .behind)) i j (takes-key P L H (suc l) v space (z .behind) (z .contents) ∙ d))
+        (rw (write-key P H (suc l) v w (z .behind) (z .contents))
+        (step-then (do-rdGlob (head (tail e)) (omega arith) (globals .nils))
+        (step-then (do-ret (head (tail (tail e))) (has-written R 5 (shift P nil)) refl call below)
+        (done refl (record { is = refl; fine = nil-fine P L C G globals (sound .fine); heap-fine = sound; grows = grows-put P H (suc l) v w; space = fits-after-put P L H (suc l) v w d; locals = refl })))))
+
+    insert-good : {g p q l : ℕ} {R : Registers} (v w : Val) → MapAt P (s .heap) l → Fine P (s .heap) v → Fine P (s .heap) w → Seg C g p (operationCode Insert) q → Has R 1 (Val.location (classCount P + l)) → Has R 2 (shift P v) → Has R 3 (shift P w) → Answers (From g p R s) 40 (perform setting Insert (Val.location l) v w s)
+    unfolding operationCode perform
+    insert-good v w z fv fw e h i j =
+        let y = split contentsInto _ e in
+        contents-then z (y .left) h
+        (λ R′ x h′. written-then v w _ z refl fv fw (y .right) h′ (has-except (λ n. omega arith) x i) (has-except (λ n. omega arith) x j))
