@@ -6,10 +6,13 @@ use mathlib.Core.List.{List, [], _∷_, _++_, map}
 use Prim.Native.Nat.{ℕ, zero, suc, _+_, _-_, _<_, _≤_}
 use native.Mathlib.Omega.{arith}
 use lib.Chars.{codes}
+use lib.Dec.{eqb}
 use lib.IntN.{ℤ, pos, negsuc}
 use lib.ListN.{length, getD}
 use Rattle.std.specs.Written.{signed}
 use Rattle.std.specs.Options.{isSome, mapped}
+use Rattle.std.specs.Finite.{nth}
+use Rattle.std.specs.shelf.Lists.{All}
 use Rattle.std.specs.declared.option.Option.{Option}
 use Rattle.std.specs.declared.option.Option.the-variants.{Some, None}
 use Rattle.std.specs.declared.result.Result.{Result}
@@ -23,7 +26,7 @@ use Rattle.machine.specs.declared.arith.Op.the-variants.{Add, Sub, Mul, Div}
 use Rattle.machine.specs.declared.builtin.Builtin.{Builtin}
 use Rattle.machine.specs.declared.builtin.Builtin.the-variants as own
 use Rattle.machine.specs.declared.ending.Ending.{Ending}
-use Rattle.machine.specs.declared.ending.Ending.the-variants.{WrongArgumentKind, NoTableSpace, NoTextSpace, NoOutputSpace, DivisionByZero}
+use Rattle.machine.specs.declared.ending.Ending.the-variants.{WrongArgumentCount, WrongArgumentKind, NoTableSpace, NoTextSpace, NoOutputSpace, DivisionByZero}
 use Rattle.machine.specs.declared.instruction.Kind.{Kind}
 use Rattle.machine.specs.Limits.{Limits, registersPerFrame}
 use Rattle.machine.specs.Outcome.{Outcome, unless}
@@ -33,8 +36,9 @@ use Rattle.machine.specs.Builtin.{builtinNumber, builtinOf, integerIn, stringIn
 use Rattle.machine.specs.Instr.{Instr, Program}
 use Rattle.machine.specs.Operands.{truth, isOf}
 use Rattle.machine.specs.State as machine
-use Rattle.machine.specs.State.{Registers, Frame, frame, at, write}
+use Rattle.machine.specs.State.{Registers, Frame, frame, at, write, passed}
 use Rattle.machine.proofs.Judge.{Has, Hold, none, more, Fetch}
+use Rattle.machine.proofs.Registers.{passed-reads}
 use Rattle.machine.proofs.Exec.{do-const, do-mov, do-arith, end-arith, do-eq, do-isKind, do-builtin, end-builtin, do-rdGlob, do-rdTab, do-wrTab, end-wrTab, do-hasTab, do-ret}
 use Rattle.rube.specs.declared.builtin.Operation.{Operation}
 use Rattle.rube.specs.declared.builtin.Operation.the-variants.{
@@ -59,12 +63,13 @@ use Rattle.rube.specs.Heap as heap
 use Rattle.rube.specs.Evaluation as evaluation
 use Rattle.rube.specs.Evaluation.{State, Res, val, end, _>>=_, withHeap, withEffects, outcome, effect}
 use Rattle.rube.specs.Methods.{keyed, perform}
-use Rattle.compiler.specs.Pieces.{number, nilInto, require, truthInto}
-use Rattle.compiler.specs.Layout.{classKey, nameKey, contentsKey, placeIn}
-use Rattle.compiler.specs.Builtins.{ask, classNameInto, printFive, contentsInto, operationCode}
+use Rattle.rube.specs.Meaning.{argAt}
+use Rattle.compiler.specs.Pieces.{number, nilInto, require, truthInto, countTest}
+use Rattle.compiler.specs.Layout.{classKey, nameKey, contentsKey, placeIn, operationFunction}
+use Rattle.compiler.specs.Builtins.{ask, classNameInto, printFive, contentsInto, operationCode, operationParameters, operationFunctionCode}
 use Rattle.correctness.proofs.Relation.{shift, world, Globals, Fine, integer, text, object, Sound, Grows}
 use Rattle.correctness.proofs.Segments.{Seg, Split, split, head, tail, last}
-use Rattle.correctness.proofs.Following.{Sim, legal, step-then, slack, done, ending}
+use Rattle.correctness.proofs.Following.{Sim, legal, count-then, step-then, slack, done, ending, weaken}
 use Rattle.correctness.proofs.Registers.{has-written, has-other}
 use Rattle.correctness.proofs.Returning.{Except, has-except, grows-same, Back}
 use Rattle.correctness.proofs.Classed.{except-two}
@@ -74,8 +79,30 @@ use Rattle.correctness.proofs.Heaps.{key-fine, sound-key, grows-put}
 use Rattle.correctness.proofs.Space.{takes-key, fits-after-put}
 use Rattle.correctness.proofs.Forms.{nil-fine}
 use Rattle.correctness.proofs.Fields.{truth-fine}
-use Rattle.correctness.proofs.Receivers.{ObjectAt, MapAt, Suits}
-use Rattle.correctness.proofs.Tests.{require-then, truth-then}
+use Rattle.correctness.proofs.Receivers.{
+  ObjectAt,
+  MapAt,
+  Suits,
+  equal,
+  className,
+  printClassName,
+  itself,
+  decimal,
+  printInteger,
+  printString,
+  nilText,
+  printNil,
+  concat,
+  itsLength,
+  arith as arithmetical,
+  find,
+  insert,
+  has,
+}
+use Rattle.correctness.proofs.Tests.{require-then, count-test, truth-then}
+
+two-more : (i : ℕ) → 2 + i ≡ suc (suc i)
+two-more i = omega arith
 
 -- what has no space, or divides by zero, ends with an ending of the language
 unless-legal : {X : Type 0} (z : Ending) (b : Bool) (x : X) (e : Ending) → legal z ≡ true → unless z b (Ok x) ≡ Err e → legal e ≡ true
@@ -109,6 +136,12 @@ own-found own.Length = refl
 module _ {A : Type 0} (P : Classes A) (L : Limits) (C : Program) (G : Table) (globals : Globals P G) where
   abbrev setting : Setting A
   setting = record { classes = P; limits = L }
+
+  -- what a callee finds: the receiver in register 1, and the arguments behind it
+  pub record Received (H : Heap) (R : Registers) (r : Val) (vs : List Val) : Type 0 where
+    pub receiver-in : Has R 1 (shift P r)
+    pub argument-in : (i : ℕ) → i < length vs → Has R (2 + i) (shift P (argAt vs i))
+    pub argument-fine : (i : ℕ) → i < length vs → Fine P H (argAt vs i)
 
   -- a caller waits at its call, with the registers Rc; the state is s
   module _ (k : ℕ) (Rc : Registers) (S : List Frame) {f pc a first final : ℕ} (call : Fetch C f pc (Instr.call a first final)) (below : first < registersPerFrame) (s : State) (heap-sound : Sound P (s .heap)) (space : fits (record { classes = P; limits = L }) (s .heap) 0 0 ≡ true) where
@@ -378,3 +411,74 @@ module _ {A : Type 0} (P : Classes A) (L : Limits) (C : Program) (G : Table) (gl
         let y = split contentsInto _ e in
         contents-then z (y .left) h
         (λ R′ x h′. written-then v w _ z refl fv fw (y .right) h′ (has-except (λ n. omega arith) x i) (has-except (λ n. omega arith) x j))
+
+    -- each operation on a receiver that suits it
+    performed : {g p q : ℕ} {R : Registers} {o : Operation} {r : Val} (vs : List Val) → Suits P (s .heap) o r → Fine P (s .heap) r → length vs ≡ operationParameters o → Received (s .heap) R r vs → Seg C g p (operationCode o) q
+        → Answers (From g p R s) 40 (perform setting o r (argAt vs 0) (argAt vs 1) s)
+    performed vs equal f n a e = equal-good _ _ _ e (a .receiver-in) (a .argument-in 0 (omega arith))
+    performed vs (className z) f n a e = className-good _ _ z e (a .receiver-in)
+    performed vs (printClassName z) f n a e = printClassName-good _ _ z e (a .receiver-in)
+    performed vs itself f n a e = itself-good _ _ _ e (a .receiver-in) f
+    performed vs decimal f n a e = decimal-good _ _ _ e (a .receiver-in)
+    performed vs printInteger f n a e = printValue-good _ _ _ _ refl refl e (a .receiver-in)
+    performed vs printString f n a e = printValue-good _ _ _ _ refl refl e (a .receiver-in)
+    performed vs nilText f n a e = nilText-good _ _ _ e
+    performed vs printNil f n a e = printNil-good _ _ _ e
+    performed vs concat f n a e = concat-good _ _ _ e (a .receiver-in) (a .argument-in 0 (omega arith)) (a .argument-fine 0 (omega arith))
+    performed vs itsLength f n a e = length-good _ _ _ e (a .receiver-in)
+    performed vs arithmetical f n a e = arith-good _ _ _ _ e (a .receiver-in) (a .argument-in 0 (omega arith)) (a .argument-fine 0 (omega arith))
+    performed vs (find z) f n a e = find-good _ _ z e (a .receiver-in) (a .argument-in 0 (omega arith))
+    performed vs (insert z) f n a e = insert-good _ _ z (a .argument-fine 0 (omega arith)) (a .argument-fine 1 (omega arith)) e (a .receiver-in) (a .argument-in 0 (omega arith)) (a .argument-in 1 (omega arith))
+    performed vs (has z) f n a e = has-good _ _ z e (a .receiver-in) (a .argument-in 0 (omega arith))
+
+  all-at : {H : Heap} (vs : List Val) → All (Fine P H) vs → (i : ℕ) → i < length vs → Fine P H (argAt vs i)
+  all-at [] a i l = absurd (omega arith)
+  all-at (v ∷ vs) a zero l = a .0
+  all-at (v ∷ vs) a (suc i) l = all-at vs (a .1) i (omega arith)
+
+  nth-shift : (vs : List Val) (i : ℕ) → i < length vs → nth (map (shift P) vs) i ≡ Some (shift P (argAt vs i))
+  nth-shift [] i l = absurd (omega arith)
+  nth-shift (v ∷ vs) zero l = refl
+  nth-shift (v ∷ vs) (suc i) l = nth-shift vs i (omega arith)
+
+  -- what is passed is what is found, but for a register above the arguments
+  received : {H : Heap} {R : Registers} (w r : Val) (vs : List Val) → length vs ≤ 2 → All (Fine P H) vs → Except 4 (passed (w ∷ shift P r ∷ map (shift P) vs)) R → Received H R r vs
+  received w r vs n a x =
+      let ws = w ∷ shift P r ∷ map (shift P) vs in
+      record {
+        receiver-in = has-except (λ z. omega arith) x (record { is = passed-reads ws 1 });
+        argument-in = λ i l. has-except (λ z. omega arith) x (record { is = passed-reads ws (2 + i) ∙ rw (two-more i) (nth-shift vs i l) });
+        argument-fine = λ i l. all-at vs a i l;
+      }
+
+  few-parameters : (o : Operation) → operationParameters o ≤ 2
+  few-parameters Equal = omega arith
+  few-parameters ClassName = omega arith
+  few-parameters PrintClassName = omega arith
+  few-parameters Itself = omega arith
+  few-parameters Decimal = omega arith
+  few-parameters PrintValue = omega arith
+  few-parameters NilText = omega arith
+  few-parameters PrintNil = omega arith
+  few-parameters Concat = omega arith
+  few-parameters Length = omega arith
+  few-parameters (Arith o) = omega arith
+  few-parameters Find = omega arith
+  few-parameters Insert = omega arith
+  few-parameters HasKey = omega arith
+
+  back-counted : {R R′ : Registers} {t : ℕ} {s s′ : State} {v : Val} → Back P L R t (evaluation.count s) v s′ R′ → Back P L R t s v s′ R′
+  back-counted b = record { is = b .is; fine = b .fine; heap-fine = b .heap-fine; grows = b .grows; space = b .space; locals = b .locals }
+
+  -- a built-in operation's function, entered by a call, tests the number of arguments, performs the operation and answers
+  pub operation-good : {k f pc a t final q : ℕ} {S : List Frame} {R : Registers} (s : State) (r : Val) (vs : List Val) (o : Operation)
+      → Seg C (operationFunction o) 0 (operationFunctionCode o) q → Fetch C f pc (Instr.call a t final) → t < registersPerFrame
+      → Suits P (s .heap) o r → Fine P (s .heap) r → All (Fine P (s .heap)) vs → Sound P (s .heap) → fits setting (s .heap) 0 0 ≡ true
+      → Sim P C L G k (at (operationFunction o) 0 (passed (number (length vs) ∷ shift P r ∷ map (shift P) vs)) (frame f pc R ∷ S) (world P G s)) 20 (s .counted) f (suc pc) S (Back P L R t s)
+      (evaluation.unless WrongArgumentCount (eqb (length vs) (operationParameters o)) s (perform setting o r (argAt vs 0) (argAt vs 1) (evaluation.count s)))
+  operation-good {k = k} {S = S} {R = R} s r vs o e call below u w ws sound space =
+      let y = split (countTest 4 (operationParameters o)) _ e in
+      count-test P L C G s (omega arith) (λ z. omega arith) (record { is = passed-reads (number (length vs) ∷ shift P r ∷ map (shift P) vs) 0 }) (y .left)
+      (λ n R₁ x. count-then (slack 128 (omega arith)
+      (weaken (λ v s′ R′ φ. back-counted φ)
+      (performed k R S call below (evaluation.count s) sound space vs u w n (received (number (length vs)) r vs (omega (arith, few-parameters o)) ws x) (y .right)))))
