@@ -120,7 +120,7 @@ module _ {A : Type 0} (P : Classes A) (L : Limits) (C : Program) (G : Table) (gl
             (unless WrongArgumentCount (eqb (length vs) (parameterCount f′)) s (enter (setting P L C G globals k again) again d f′ r vs s))
 
     -- a call: a frame is taken, or there is none
-    framed-then : {f p q t a : ℕ} {ns : List (List ℕ)} {me : Val} {S : List Frame} {R₀ : Registers} {H₀ : Heap} {R : Registers} (s : State) (r : Val) (vs : List Val) (x : List ℕ) (f′ : Callee A) (d : ℕ)
+    pub framed-then : {f p q t a : ℕ} {ns : List (List ℕ)} {me : Val} {S : List Frame} {R₀ : Registers} {H₀ : Heap} {R : Registers} (s : State) (r : Val) (vs : List Val) (x : List ℕ) (f′ : Callee A) (d : ℕ)
         → Callable f′ → lookup P (classOf (s .heap) r) x ≡ Some f′
         → Pre P L ns me d t S R₀ H₀ R s → Fine P (s .heap) r → All (Fine P (s .heap)) vs → t < registersPerFrame
         → Has R a (Val.identifier (functionOf f′)) → Hold R t (block r vs) → Seg C f p (Instr.call a t (t + 1 + length vs) ∷ []) q

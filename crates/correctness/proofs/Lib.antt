@@ -28,3 +28,4 @@ pub mod Laying
 pub mod Orderly
 pub mod StartUp
 pub mod Objects
+pub mod News

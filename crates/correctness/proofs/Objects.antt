@@ -50,7 +50,7 @@ module _ {A : Type 0} (P : Classes A) (L : Limits) (C : Program) (G : Table) (gl
   within = record { classes = P; limits = L }
 
   -- a state whose heap has grown
-  grown-proper : {me : Val} {s : State} (H′ : Heap) → Proper P L me s → Sound P H′ → Grows P (s .heap) H′ → fits within H′ 0 0 ≡ true → Proper P L me (withHeap H′ s)
+  pub grown-proper : {me : Val} {s : State} (H′ : Heap) → Proper P L me s → Sound P H′ → Grows P (s .heap) H′ → fits within H′ 0 0 ≡ true → Proper P L me (withHeap H′ s)
   grown-proper {s = s} H′ p h g f = record { heap-fine = h; me-fine = self-grows P L g (p .me-fine); locals-fine = all-grows P L (s .locals) g (p .locals-fine); space = f }
 
   -- a field of self is written, if there is room for it

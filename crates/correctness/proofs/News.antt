@@ -1,0 +1,147 @@
+-- Objects made, and their initialize. Assumes nothing.
+use mathlib.Core.Path.{_≡_, refl, sym, ap, subst, _∙_}
+use mathlib.Core.Logic.{_≢_}
+use mathlib.Core.Bool.{Bool, true, false, cond, not}
+use mathlib.Core.List.{List, [], _∷_, _++_, map}
+use Prim.Native.Nat.{ℕ, zero, suc, _+_, _<_, _≤_}
+use native.Mathlib.Omega.{arith}
+use lib.Chars.{codes}
+use lib.Dec.{eqb}
+use lib.IntN.{pos}
+use lib.ListN.{length, getD}
+use Rattle.std.specs.shelf.Lists.{All}
+use Rattle.std.specs.shelf.Text.{sameBytes}
+use Rattle.std.proofs.shelf.Equals.{sameBytes-decides}
+use Rattle.std.proofs.shelf.Lists.{length-map, getD-at}
+use Rattle.std.specs.declared.option.Option.{Option}
+use Rattle.std.specs.declared.option.Option.the-variants.{Some, None}
+use Rattle.store.specs.Val.{Val}
+use Rattle.store.specs.Tables.{Table, Tables, takes}
+use Rattle.store.specs.Tables as store
+use Rattle.machine.specs.declared.ending.Ending.the-variants.{NoTableSpace, WrongArgumentCount, NoSuchClass, CannotInstantiateBot}
+use Rattle.machine.specs.Limits.{Limits, registersPerFrame}
+use Rattle.machine.specs.Instr.{Instr, Program}
+use Rattle.machine.specs.State.{Registers, Frame, at, read, write}
+use Rattle.machine.proofs.Judge.{Has, Hold, none, more, Fetch}
+use Rattle.machine.proofs.Exec.{do-const, do-mov, do-rdGlob, do-mkTab, end-mkTab, do-wrTab, end-wrTab, end-halt}
+use Rattle.grammar.specs.Tree.{Expr, Args}
+use Rattle.grammar.specs.Measure.{count}
+use Rattle.rube.specs.Classes.{Callee, Classes, classNames, classCount, known, lookup, parameterCount}
+use Rattle.rube.specs.Heap as heap
+use Rattle.rube.specs.Heap.{Heap, Cell, noCell, classOf, fits}
+use Rattle.rube.specs.Evaluation.{State, Res, val, end, unless, withHeap}
+use Rattle.rube.specs.Evaluation as evaluation
+use Rattle.rube.specs.Meaning.{Eval, cellsOf, framed, initialized, eval, evals}
+use Rattle.rube.specs.Meaning as meaning
+use Rattle.compiler.specs.Layout.{classKey, contentsKey, placeIn, free, classGlobal, functionOf}
+use Rattle.compiler.specs.Pieces.{number, haltWith}
+use Rattle.compiler.specs.Body as code
+use Rattle.compiler.specs.Body.{compile, compiles, create, initialize}
+use Rattle.correctness.specs.Fitting.{Fit, Fits}
+use Rattle.correctness.proofs.Relation.{shift, tablesOf, world, Globals, Fine, integer, text, object, Sound, Proper, Grows}
+use Rattle.correctness.proofs.Segments.{Seg, Split, split, seg-end, head, tail, last}
+use Rattle.correctness.proofs.Segments as seg
+use Rattle.correctness.proofs.Following.{Sim, bind, finish, count-then, step-then, slack, done, ending}
+use Rattle.correctness.proofs.Registers.{has-written, has-other, hold-other, hold-below, keep-same, keep-then}
+use Rattle.correctness.proofs.Returning.{fine-grows, grows-then, grows-same, Back}
+use Rattle.correctness.proofs.Judged.{Pre, Post, Posts, Goods, first, answer, scratch}
+use Rattle.correctness.proofs.Tabled.{make-object, make-map, length-tables, length-made, cells-object, new-table-here, old-table-here}
+use Rattle.correctness.proofs.Heaps.{grows-more, sound-make, made-fine}
+use Rattle.correctness.proofs.Space.{fits-after-make, Makes, bothFit, noTable, noPair, MakesMap, firstFails, firstFits, makes-object, makes-map}
+use Rattle.correctness.proofs.Forms.{setting, Ok}
+use Rattle.correctness.proofs.Calls.{Oks, Callables, block, framed-then}
+use Rattle.correctness.proofs.Objects.{grown-proper}
+
+module _ {A : Type 0} (P : Classes A) (L : Limits) (C : Program) (G : Table) (globals : Globals P G) where
+  abbrev within : heap.Setting A
+  within = record { classes = P; limits = L }
+
+  -- an object of class D stands in the register behind t, before arguments that still stand
+  pub record Born (D : List ℕ) (ns : List (List ℕ)) (me : Val) (d t : ℕ) (S : List Frame) (R₀ : Registers) (H₀ : Heap) (ws : List Val) (s : State) (v : Val) (s′ : State) (R : Registers) : Type 0 where
+    pub pre : Pre P L ns me d t S R₀ H₀ R s′
+    pub object-in : Has R (suc t) (shift P v)
+    pub arguments : Hold R (suc (suc t)) ws
+    pub fine : Fine P (s′ .heap) v
+    pub grows : Grows P (s .heap) (s′ .heap)
+    pub class : classOf (s′ .heap) v ≡ D
+
+  -- an Integer or a String is a value
+  value-then : {k f p q t d : ℕ} {ns : List (List ℕ)} {me : Val} {S : List Frame} {R₀ : Registers} {H₀ : Heap} {R : Registers} {ws : List Val} (s : State) (D : List ℕ) (v : Val)
+      → Fine P (s .heap) v → classOf (s .heap) v ≡ D → suc t < registersPerFrame → Pre P L ns me d t S R₀ H₀ R s → Hold R (suc (suc t)) ws → Seg C f p (Instr.const (suc t) (shift P v) ∷ []) q
+      → Sim P C L G k (at f p R S (world P G s)) 100 (s .counted) f q S (Born D ns me d t S R₀ H₀ ws s) (val v s)
+  value-then {t = t} {R = R} s D v w c b h hs g =
+      step-then (do-const (head g) b)
+      (done (last g) (record { pre = scratch P L (suc t) (shift P v) (omega arith) h; object-in = has-written R (suc t) (shift P v); arguments = hold-below R (suc t) (shift P v) (omega arith) hs; fine = w; grows = grows-same P L; class = c }))
+
+  -- the state with the new object
+  born : {t d : ℕ} {ns : List (List ℕ)} {me : Val} {S : List Frame} {R₀ : Registers} {H₀ : Heap} {R : Registers} {ws : List Val} (s : State) (D : List ℕ)
+      → known P D ≡ true → sameBytes D (codes "String") ≡ false → sameBytes D (codes "Integer") ≡ false → fits within (s .heap) (length (cellsOf D (s .heap))) (length (cellsOf D (s .heap))) ≡ true
+      → Pre P L ns me d t S R₀ H₀ R s → Has R (suc t) (Val.location (classCount P + length (s .heap))) → Hold R (suc (suc t)) ws → classOf (s .heap ++ cellsOf D (s .heap)) (Val.location (length (s .heap))) ≡ D
+      → Born D ns me d t S R₀ H₀ ws s (Val.location (length (s .heap))) (withHeap (s .heap ++ cellsOf D (s .heap)) s) R
+  born s D kn ns′ ni f h i hs c =
+      let H′ = s .heap ++ cellsOf D (s .heap) in
+      let g = grows-more P (s .heap) (cellsOf D (s .heap)) in
+      record {
+        pre = record {
+          room = h .room;
+          frames = h .frames;
+          stand = h .stand;
+          keep = h .keep;
+          proper = grown-proper P L C G globals H′ (h .proper) (sound-make P D (h .proper .heap-fine) kn ns′ ni) g (fits-after-make P L D (s .heap) f);
+          grows = grows-then P L (h .grows) g;
+        };
+        object-in = i;
+        arguments = hs;
+        fine = made-fine P (s .heap) D kn;
+        grows = g;
+        class = c;
+      }
+
+  made-class : (H : Heap) (D : List ℕ) → classOf (H ++ cellsOf D H) (Val.location (length H)) ≡ D
+  made-class H D = by (sameBytes D (codes "Map")) where
+    by : (b : Bool) → heap.cellClass (getD (H ++ cond b (Cell.object D ((contentsKey, Val.location (suc (length H))) ∷ []) ∷ Cell.contents [] ∷ []) (Cell.object D [] ∷ [])) (length H) noCell) ≡ D
+    by true = ap heap.cellClass (getD-at H (Cell.object D ((contentsKey, Val.location (suc (length H))) ∷ [])) (Cell.contents [] ∷ []) noCell (length H) refl)
+    by false = ap heap.cellClass (getD-at H (Cell.object D []) [] noCell (length H) refl)
+
+  -- an object that is no Map: one table, one pair
+  object-then : {k f p q t d z : ℕ} {ns : List (List ℕ)} {me : Val} {S : List Frame} {R₀ : Registers} {H₀ : Heap} {R : Registers} {ws : List Val} (s : State) (D : List ℕ) (b : Bool)
+      → fits within (s .heap) (length (cellsOf D (s .heap))) (length (cellsOf D (s .heap))) ≡ b → Makes L (tablesOf P (s .heap)) (classCount P + length (s .heap)) classKey b
+      → known P D ≡ true → sameBytes D (codes "Map") ≡ false → sameBytes D (codes "String") ≡ false → sameBytes D (codes "Integer") ≡ false
+      → suc (suc t) + length ws ≤ z → z + 1 < registersPerFrame → Pre P L ns me d t S R₀ H₀ R s → Hold R (suc (suc t)) ws
+      → Seg C f p (Instr.mkTab (suc t) ∷ Instr.const z classKey ∷ Instr.rdGlob (suc z) (classGlobal P D) ∷ Instr.wrTab (suc t) z (suc z) ∷ []) q
+      → Sim P C L G k (at f p R S (world P G s)) 100 (s .counted) f q S (Born D ns me d t S R₀ H₀ ws s)
+        (unless NoTableSpace b s (val (Val.location (length (s .heap))) (withHeap (s .heap ++ cellsOf D (s .heap)) s)))
+  object-then {t = t} s D false e (noTable l) kn nm ns′ ni zl zb h hs g = ending refl (end-mkTab (head g) (omega arith) l)
+  object-then {t = t} {z = z} {R = R} s D false e (noPair l x) kn nm ns′ ni zl zb h hs g =
+      let o = Val.location (length (tablesOf P (s .heap))) in
+      let lt = length-tables P (s .heap) in
+      let c = Val.location (placeIn (classNames P) D) in
+      let R₁ = write R (suc t) o in
+      let R₂ = write R₁ z classKey in
+      let o₂ = has-other R₁ z (suc t) classKey (λ y. omega arith) (has-written R (suc t) o) in
+      let o₃ = has-other R₂ (suc z) (suc t) c (λ y. omega arith) o₂ in
+      let k₃ = has-other R₂ (suc z) z c (λ y. omega arith) (has-written R₁ z classKey) in
+      let o-at = subst (λ (n : ℕ). Has (write R₂ (suc z) c) (suc t) (Val.location n)) lt o₃ in
+      step-then (do-mkTab (head g) (omega arith) l)
+      (step-then (do-const (head (tail g)) (omega arith))
+      (step-then (do-rdGlob (head (tail (tail g))) (omega arith) (globals .classes D kn))
+      (ending refl (end-wrTab (head (tail (tail (tail g)))) o-at (new-table-here P (s .heap)) k₃ (has-written R₂ (suc z) c) x))))
+  object-then {t = t} {z = z} {R = R} s D true e (bothFit l x) kn nm ns′ ni zl zb h hs g =
+      let o = Val.location (length (tablesOf P (s .heap))) in
+      let lt = length-tables P (s .heap) in
+      let c = Val.location (placeIn (classNames P) D) in
+      let R₁ = write R (suc t) o in
+      let R₂ = write R₁ z classKey in
+      let o₂ = has-other R₁ z (suc t) classKey (λ y. omega arith) (has-written R (suc t) o) in
+      let o₃ = has-other R₂ (suc z) (suc t) c (λ y. omega arith) o₂ in
+      let k₃ = has-other R₂ (suc z) z c (λ y. omega arith) (has-written R₁ z classKey) in
+      let o-at = subst (λ (n : ℕ). Has (write R₂ (suc z) c) (suc t) (Val.location n)) lt o₃ in
+      let h₃ = scratch P L (suc z) c (omega arith) (scratch P L z classKey (omega arith) (scratch P L (suc t) o (omega arith) h)) in
+      let hs₃ = hold-other R₂ (suc z) c (omega arith) (hold-other R₁ z classKey (omega arith) (hold-below R (suc t) o (omega arith) hs)) in
+      let cells = ap (λ (ys : Heap). tablesOf P (s .heap ++ ys)) (sym (cells-object D (s .heap) nm)) in
+      step-then (do-mkTab (head g) (omega arith) l)
+      (step-then (do-const (head (tail g)) (omega arith))
+      (step-then (do-rdGlob (head (tail (tail g))) (omega arith) (globals .classes D kn))
+      (step-then (do-wrTab (head (tail (tail (tail g)))) o-at (new-table-here P (s .heap)) k₃ (has-written R₂ (suc z) c) x)
+      (rw (make-object P (s .heap) D ∙ cells)
+      (done (last (tail (tail (tail g)))) (born s D kn ns′ ni e h₃ o-at hs₃ (made-class (s .heap) D)))))))
