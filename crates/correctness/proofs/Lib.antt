@@ -15,6 +15,7 @@ pub mod Returning
 pub mod Classed
 pub mod Fields
 pub mod Calls
+pub mod Endings
 pub mod Tests
 pub mod Receivers
 pub mod Operations

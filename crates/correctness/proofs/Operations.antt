@@ -1,43 +1,40 @@
 -- The functions of the built-in operations do what the operations mean. Assumes nothing.
-use mathlib.Core.Path.{_≡_, refl, sym, ap, subst, _∙_}
+use mathlib.Core.Path.{_≡_, refl, sym, ap, _∙_}
 use mathlib.Core.Logic.{_≢_}
-use mathlib.Core.Bool.{Bool, true, false, cond}
+use mathlib.Core.Bool.{Bool, true, false}
 use mathlib.Core.List.{List, [], _∷_, _++_, map}
-use Prim.Native.Nat.{ℕ, zero, suc, _+_, _-_, _<_, _≤_}
+use Prim.Native.Nat.{ℕ, zero, suc, _+_, _<_, _≤_}
 use native.Mathlib.Omega.{arith}
 use lib.Chars.{codes}
 use lib.Dec.{eqb}
-use lib.IntN.{ℤ, pos, negsuc}
-use lib.ListN.{length, getD}
+use lib.IntN.{ℤ, pos}
+use lib.ListN.{length}
 use Rattle.std.specs.Written.{signed}
 use Rattle.std.specs.Options.{isSome, mapped}
 use Rattle.std.specs.Finite.{nth}
 use Rattle.std.specs.shelf.Lists.{All}
 use Rattle.std.specs.declared.option.Option.{Option}
 use Rattle.std.specs.declared.option.Option.the-variants.{Some, None}
-use Rattle.std.specs.declared.result.Result.{Result}
 use Rattle.std.specs.declared.result.Result.the-variants.{Ok, Err}
 use Rattle.std.proofs.shelf.Tests.{false≢true}
 use Rattle.store.specs.Val.{Val, equalVal}
 use Rattle.store.specs.Tables.{Table, look}
-use Rattle.store.specs.Tables as store
 use Rattle.machine.specs.declared.arith.Op.{Op}
-use Rattle.machine.specs.declared.arith.Op.the-variants.{Add, Sub, Mul, Div}
 use Rattle.machine.specs.declared.builtin.Builtin.{Builtin}
 use Rattle.machine.specs.declared.builtin.Builtin.the-variants as own
 use Rattle.machine.specs.declared.ending.Ending.{Ending}
-use Rattle.machine.specs.declared.ending.Ending.the-variants.{WrongArgumentCount, WrongArgumentKind, NoTableSpace, NoTextSpace, NoOutputSpace, DivisionByZero}
+use Rattle.machine.specs.declared.ending.Ending.the-variants.{WrongArgumentCount, WrongArgumentKind, NoTableSpace}
 use Rattle.machine.specs.declared.instruction.Kind.{Kind}
 use Rattle.machine.specs.Limits.{Limits, registersPerFrame}
-use Rattle.machine.specs.Outcome.{Outcome, unless}
+use Rattle.machine.specs.Outcome.{Outcome}
 use Rattle.machine.specs.Arith as arithmetic
-use Rattle.machine.specs.Effects.{Effects, charged, printed, charge, print}
-use Rattle.machine.specs.Builtin.{builtinNumber, builtinOf, integerIn, stringIn, shown, apply}
+use Rattle.machine.specs.Effects.{Effects, charge, print}
+use Rattle.machine.specs.Builtin.{builtinNumber, builtinOf, shown, apply}
 use Rattle.machine.specs.Instr.{Instr, Program}
 use Rattle.machine.specs.Operands.{truth, isOf}
 use Rattle.machine.specs.State as machine
 use Rattle.machine.specs.State.{Registers, Frame, frame, at, write, passed}
-use Rattle.machine.proofs.Judge.{Has, Hold, none, more, Fetch}
+use Rattle.machine.proofs.Judge.{Has, none, more, Fetch}
 use Rattle.machine.proofs.Registers.{passed-reads}
 use Rattle.machine.proofs.Exec.{do-const, do-mov, do-arith, end-arith, do-eq, do-isKind, do-builtin, end-builtin, do-rdGlob, do-rdTab, do-wrTab, end-wrTab, do-hasTab, do-ret}
 use Rattle.rube.specs.declared.builtin.Operation.{Operation}
@@ -57,18 +54,19 @@ use Rattle.rube.specs.declared.builtin.Operation.the-variants.{
   Insert,
   Has as HasKey,
 }
-use Rattle.rube.specs.Classes.{Classes, classNames, classCount, known}
-use Rattle.rube.specs.Heap.{Cell, Heap, Setting, nil, noCell, fieldsOf, fits, newPairs, putAt}
+use Rattle.rube.specs.Classes.{Callee, Classes, lookup, classNames, classCount}
+use Rattle.rube.specs.Heap.{Heap, Setting, nil, classOf, fieldsOf, fits, newPairs, putAt}
 use Rattle.rube.specs.Heap as heap
 use Rattle.rube.specs.Evaluation as evaluation
 use Rattle.rube.specs.Evaluation.{State, Res, val, end, _>>=_, withHeap, withEffects, outcome, effect}
 use Rattle.rube.specs.Methods.{keyed, perform}
-use Rattle.rube.specs.Meaning.{argAt}
+use Rattle.rube.specs.Meaning.{argAt, Eval}
 use Rattle.compiler.specs.Pieces.{number, nilInto, require, truthInto, countTest}
 use Rattle.compiler.specs.Layout.{classKey, nameKey, contentsKey, placeIn, operationFunction}
 use Rattle.compiler.specs.Builtins.{ask, classNameInto, printFive, contentsInto, operationCode, operationParameters, operationFunctionCode}
-use Rattle.correctness.proofs.Relation.{shift, world, Globals, Fine, integer, text, object, Sound, Grows}
-use Rattle.correctness.proofs.Segments.{Seg, Split, split, head, tail, last}
+use Rattle.correctness.specs.Accepted.{Accepted, Few}
+use Rattle.correctness.proofs.Relation.{shift, world, Globals, Fine, integer, text, object, Sound}
+use Rattle.correctness.proofs.Segments.{Seg, split, head, tail, last}
 use Rattle.correctness.proofs.Following.{Sim, legal, count-then, step-then, slack, done, ending, weaken}
 use Rattle.correctness.proofs.Registers.{has-written, has-other}
 use Rattle.correctness.proofs.Returning.{Except, has-except, grows-same, Back}
@@ -79,10 +77,13 @@ use Rattle.correctness.proofs.Heaps.{key-fine, sound-key, grows-put}
 use Rattle.correctness.proofs.Space.{takes-key, fits-after-put}
 use Rattle.correctness.proofs.Forms.{nil-fine}
 use Rattle.correctness.proofs.Fields.{truth-fine}
+use Rattle.correctness.proofs.Lookup.{found-builtIn, found-function}
+use Rattle.correctness.proofs.Calls.{Callable}
 use Rattle.correctness.proofs.Receivers.{
   ObjectAt,
   MapAt,
   Suits,
+  suited-suits,
   equal,
   className,
   printClassName,
@@ -99,32 +100,11 @@ use Rattle.correctness.proofs.Receivers.{
   insert,
   has,
 }
+use Rattle.correctness.proofs.Endings.{charge-legal, print-legal, arith-legal}
 use Rattle.correctness.proofs.Tests.{require-then, count-test, truth-then}
 
 two-more : (i : ℕ) → 2 + i ≡ suc (suc i)
 two-more i = omega arith
-
--- what has no space, or divides by zero, ends with an ending of the language
-unless-legal : {X : Type 0} (z : Ending) (b : Bool) (x : X) (e : Ending) → legal z ≡ true → unless z b (Ok x) ≡ Err e → legal e ≡ true
-unless-legal z true x e l h = let y : _≡_ {A = ℕ} 0 1 = cc in absurd (omega arith)
-unless-legal z false x e l h = let y : z ≡ e = cc in rw (← y) l
-
-pub charge-legal : (n : ℕ) (o : Effects) (e : Ending) → charge n o ≡ Err e → legal e ≡ true
-unfolding charge
-charge-legal n o e h = unless-legal NoTextSpace _ (charged n o) e refl h
-
-pub print-legal : (t : List ℕ) (o : Effects) (e : Ending) → print t o ≡ Err e → legal e ≡ true
-unfolding print
-print-legal t o e h = unless-legal NoOutputSpace _ (printed t o) e refl h
-
-pub arith-legal : (o : Op) (m n : ℤ) (e : Ending) → arithmetic.arith o m n ≡ Err e → legal e ≡ true
-unfolding arithmetic.arith
-arith-legal Add m n e h = let y : _≡_ {A = ℕ} 0 1 = cc in absurd (omega arith)
-arith-legal Sub m n e h = let y : _≡_ {A = ℕ} 0 1 = cc in absurd (omega arith)
-arith-legal Mul m n e h = let y : _≡_ {A = ℕ} 0 1 = cc in absurd (omega arith)
-arith-legal Div m (pos zero) e h = let y : DivisionByZero ≡ e = cc in rw (← y)
-arith-legal Div m (pos (suc n)) e h = let y : _≡_ {A = ℕ} 0 1 = cc in absurd (omega arith)
-arith-legal Div m (negsuc n) e h = let y : _≡_ {A = ℕ} 0 1 = cc in absurd (omega arith)
 
 -- the machine's own functions are found by their numbers
 own-found : (b : Builtin) → builtinOf (builtinNumber b) ≡ Some b
@@ -413,7 +393,7 @@ module _ {A : Type 0} (P : Classes A) (L : Limits) (C : Program) (G : Table) (gl
         (λ R′ x h′. written-then v w _ z refl fv fw (y .right) h′ (has-except (λ n. omega arith) x i) (has-except (λ n. omega arith) x j))
 
     -- each operation on a receiver that suits it
-    performed : {g p q : ℕ} {R : Registers} {o : Operation} {r : Val} (vs : List Val) → Suits P (s .heap) o r → Fine P (s .heap) r → length vs ≡ operationParameters o → Received (s .heap) R r vs → Seg C g p (operationCode o) q
+    pub performed : {g p q : ℕ} {R : Registers} {o : Operation} {r : Val} (vs : List Val) → Suits P (s .heap) o r → Fine P (s .heap) r → length vs ≡ operationParameters o → Received (s .heap) R r vs → Seg C g p (operationCode o) q
         → Answers (From g p R s) 40 (perform setting o r (argAt vs 0) (argAt vs 1) s)
     performed vs equal f n a e = equal-good _ _ _ e (a .receiver-in) (a .argument-in 0 (omega arith))
     performed vs (className z) f n a e = className-good _ _ z e (a .receiver-in)
@@ -482,3 +462,13 @@ module _ {A : Type 0} (P : Classes A) (L : Limits) (C : Program) (G : Table) (gl
       (λ n R₁ x. count-then (slack 128 (omega arith)
       (weaken (λ v s′ R′ φ. back-counted φ)
       (performed k R S call below (evaluation.count s) sound space vs u w n (received (number (length vs)) r vs (omega (arith, few-parameters o)) ws x) (y .right)))))
+
+  -- a built-in method that a class finds can be called
+  pub builtIn-callable : (k : ℕ) (again : Eval A) → Accepted P → Few P → ((o : Operation) → (q : ℕ) × Seg C (operationFunction o) 0 (operationFunctionCode o) q)
+      → (D x : List ℕ) (n : ℕ) (o : Operation) → lookup P D x ≡ Some (Callee.builtIn n o) → Callable P L C G globals k again (Callee.builtIn n o)
+  builtIn-callable k again accepted few loaded D x n o h = record {
+    function = found-function P D x (Callee.builtIn n o) few h;
+    sim = λ s r vs y d call below frames found w ws sound space.
+        let b = found-builtIn P (classOf (s .heap) r) y n o accepted found in
+        rw (b .0) (operation-good s r vs o (loaded o .1) call below (suited-suits P o sound w (b .1)) w ws sound space);
+  }

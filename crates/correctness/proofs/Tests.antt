@@ -1,30 +1,29 @@
 -- Tests that compiled code makes: it goes on, or ends the run. Assumes nothing.
-use mathlib.Core.Path.{_≡_, refl, sym, ap, subst, _∙_}
+use mathlib.Core.Path.{_≡_, refl, sym}
 use mathlib.Core.Logic.{_≢_}
-use mathlib.Core.Bool.{Bool, true, false, cond}
-use mathlib.Core.List.{List, [], _∷_, _++_}
-use Prim.Native.Nat.{ℕ, zero, suc, _+_, _<_, _≤_}
+use mathlib.Core.Bool.{Bool, true, false}
+use mathlib.Core.List.{List}
+use Prim.Native.Nat.{ℕ, suc, _<_}
 use native.Mathlib.Omega.{arith}
 use lib.Dec.{eqb}
-use lib.IntN.{pos}
 use Rattle.std.proofs.shelf.Ways.{decides-eqb, decides-like, same-from-decides}
-use Rattle.store.specs.Val.{Val, equalVal}
+use Rattle.store.specs.Val.{equalVal}
 use Rattle.store.specs.Tables.{Table}
 use Rattle.machine.specs.declared.ending.Ending.the-variants.{WrongArgumentCount}
 use Rattle.machine.specs.Limits.{Limits, registersPerFrame}
-use Rattle.machine.specs.Instr.{Instr, Program}
+use Rattle.machine.specs.Instr.{Program}
 use Rattle.machine.specs.Operands.{truth}
 use Rattle.machine.specs.State.{Registers, Frame, at, write}
 use Rattle.machine.specs.Step.{halted}
-use Rattle.machine.proofs.Judge.{Has, Fetch}
+use Rattle.machine.proofs.Judge.{Has}
 use Rattle.machine.proofs.Exec.{do-const, do-eq, do-jmp, do-ifZero, do-ifOther, do-rdGlob, end-halt, forward}
 use Rattle.rube.specs.Classes.{Classes}
 use Rattle.rube.specs.Heap as heap
 use Rattle.rube.specs.Evaluation.{State, Res, unless}
 use Rattle.compiler.specs.Pieces.{number, require, truthInto, countTest}
 use Rattle.correctness.proofs.Relation.{shift, world, Globals}
-use Rattle.correctness.proofs.Segments.{Seg, Split, split, seg-end, head, tail, last}
-use Rattle.correctness.proofs.Following.{Sim, legal, step-then, slack, done, ending}
+use Rattle.correctness.proofs.Segments.{Seg, seg-end, head, tail, last}
+use Rattle.correctness.proofs.Following.{Sim, legal, step-then, slack, ending}
 use Rattle.correctness.proofs.Registers.{has-written, has-other}
 use Rattle.correctness.proofs.Returning.{Except}
 use Rattle.correctness.proofs.Classed.{except-two}
