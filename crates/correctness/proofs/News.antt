@@ -145,3 +145,111 @@ module _ {A : Type 0} (P : Classes A) (L : Limits) (C : Program) (G : Table) (gl
       (step-then (do-wrTab (head (tail (tail (tail g)))) o-at (new-table-here P (s .heap)) k₃ (has-written R₂ (suc z) c) x)
       (rw (make-object P (s .heap) D ∙ cells)
       (done (last (tail (tail (tail g)))) (born s D kn ns′ ni e h₃ o-at hs₃ (made-class (s .heap) D)))))))
+
+  abbrev mapCode : ℕ → ℕ → List Instr
+  mapCode t z =
+      Instr.mkTab (suc t)
+        ∷ Instr.const z classKey
+        ∷ Instr.rdGlob (suc z) (classGlobal P (codes "Map"))
+        ∷ Instr.wrTab (suc t) z (suc z)
+        ∷ Instr.mkTab (suc z)
+        ∷ Instr.const z contentsKey
+        ∷ Instr.wrTab (suc t) z (suc z)
+        ∷ []
+
+  -- the second table of a Map, and its place in the first
+  contents-then : {k f p q t d z : ℕ} {ns : List (List ℕ)} {me : Val} {S : List Frame} {R₀ : Registers} {H₀ : Heap} {ws : List Val} (s : State) (b : Bool) (R : Registers)
+      → fits within (s .heap) 2 2 ≡ b → Makes L (tablesOf P (s .heap ++ Cell.object (codes "Map") [] ∷ [])) (classCount P + length (s .heap)) contentsKey b
+      → suc (suc t) + length ws ≤ z → z + 1 < registersPerFrame → Pre P L ns me d t S R₀ H₀ R s → Has R (suc t) (Val.location (classCount P + length (s .heap))) → Hold R (suc (suc t)) ws
+      → Seg C f p (Instr.mkTab (suc z) ∷ Instr.const z contentsKey ∷ Instr.wrTab (suc t) z (suc z) ∷ []) q
+      → Sim P C L G k (at f p R S (record { tables = tablesOf P (s .heap ++ Cell.object (codes "Map") [] ∷ []); globals = G; effects = s .effects })) 96 (s .counted) f q S (Born (codes "Map") ns me d t S R₀ H₀ ws s)
+        (unless NoTableSpace b s (val (Val.location (length (s .heap))) (withHeap (s .heap ++ cellsOf (codes "Map") (s .heap)) s)))
+  contents-then s false R e (noTable l) zl zb h i hs g = ending refl (end-mkTab (head g) (omega arith) l)
+  contents-then {t = t} {z = z} s false R e (noPair l x) zl zb h i hs g =
+      let v = Val.location (length (tablesOf P (s .heap ++ Cell.object (codes "Map") [] ∷ []))) in
+      let R₁ = write R (suc z) v in
+      let i₂ = has-other R₁ z (suc t) contentsKey (λ y. omega arith) (has-other R (suc z) (suc t) v (λ y. omega arith) i) in
+      let v₂ = has-other R₁ z (suc z) contentsKey (λ y. omega arith) (has-written R (suc z) v) in
+      step-then (do-mkTab (head g) (omega arith) l)
+      (step-then (do-const (head (tail g)) (omega arith))
+      (ending refl (end-wrTab (head (tail (tail g))) i₂ (old-table-here P (s .heap) (Cell.object (codes "Map") [])) (has-written R₁ z contentsKey) v₂ x)))
+  contents-then {t = t} {z = z} s true R e (bothFit l x) zl zb h i hs g =
+      let v = Val.location (length (tablesOf P (s .heap ++ Cell.object (codes "Map") [] ∷ []))) in
+      let w = Val.location (classCount P + suc (length (s .heap))) in
+      let same : v ≡ w = ap (λ (n : ℕ). Val.location n) (length-made P (s .heap) (Cell.object (codes "Map") [])) in
+      let R₁ = write R (suc z) v in
+      let i₂ = has-other R₁ z (suc t) contentsKey (λ y. omega arith) (has-other R (suc z) (suc t) v (λ y. omega arith) i) in
+      let v₂ = has-other R₁ z (suc z) contentsKey (λ y. omega arith) (has-written R (suc z) v) in
+      let v-at = subst (λ (u : Val). Has (write R₁ z contentsKey) (suc z) u) same v₂ in
+      let h₂ = scratch P L z contentsKey (omega arith) (scratch P L (suc z) v (omega arith) h) in
+      let hs₂ = hold-other R₁ z contentsKey (omega arith) (hold-other R (suc z) v (omega arith) hs) in
+      step-then (do-mkTab (head g) (omega arith) l)
+      (step-then (do-const (head (tail g)) (omega arith))
+      (step-then (do-wrTab (head (tail (tail g))) i₂ (old-table-here P (s .heap) (Cell.object (codes "Map") [])) (has-written R₁ z contentsKey) v-at x)
+      (rw (make-map P (s .heap))
+      (done (last (tail (tail g))) (born s (codes "Map") refl refl refl e h₂ i₂ hs₂ (made-class (s .heap) (codes "Map")))))))
+
+  -- a Map: two tables, two pairs
+  map-then : {k f p q t d z : ℕ} {ns : List (List ℕ)} {me : Val} {S : List Frame} {R₀ : Registers} {H₀ : Heap} {R : Registers} {ws : List Val} (s : State) (b : Bool)
+      → fits within (s .heap) 2 2 ≡ b → MakesMap L (tablesOf P (s .heap)) (tablesOf P (s .heap ++ Cell.object (codes "Map") [] ∷ [])) (classCount P + length (s .heap)) b
+      → suc (suc t) + length ws ≤ z → z + 1 < registersPerFrame → Pre P L ns me d t S R₀ H₀ R s → Hold R (suc (suc t)) ws → Seg C f p (mapCode t z) q
+      → Sim P C L G k (at f p R S (world P G s)) 100 (s .counted) f q S (Born (codes "Map") ns me d t S R₀ H₀ ws s)
+        (unless NoTableSpace b s (val (Val.location (length (s .heap))) (withHeap (s .heap ++ cellsOf (codes "Map") (s .heap)) s)))
+  map-then {t = t} s false e (firstFails (noTable l)) zl zb h hs g = ending refl (end-mkTab (head g) (omega arith) l)
+  map-then {t = t} {z = z} {R = R} s false e (firstFails (noPair l x)) zl zb h hs g =
+      let o = Val.location (length (tablesOf P (s .heap))) in
+      let lt = length-tables P (s .heap) in
+      let c = Val.location (placeIn (classNames P) (codes "Map")) in
+      let R₁ = write R (suc t) o in
+      let R₂ = write R₁ z classKey in
+      let o₃ = has-other R₂ (suc z) (suc t) c (λ y. omega arith) (has-other R₁ z (suc t) classKey (λ y. omega arith) (has-written R (suc t) o)) in
+      let k₃ = has-other R₂ (suc z) z c (λ y. omega arith) (has-written R₁ z classKey) in
+      let o-at = subst (λ (n : ℕ). Has (write R₂ (suc z) c) (suc t) (Val.location n)) lt o₃ in
+      step-then (do-mkTab (head g) (omega arith) l)
+      (step-then (do-const (head (tail g)) (omega arith))
+      (step-then (do-rdGlob (head (tail (tail g))) (omega arith) (globals .classes (codes "Map") refl))
+      (ending refl (end-wrTab (head (tail (tail (tail g)))) o-at (new-table-here P (s .heap)) k₃ (has-written R₂ (suc z) c) x))))
+  map-then {t = t} {z = z} {R = R} s b e (firstFits (bothFit l x) m) zl zb h hs g =
+      let o = Val.location (length (tablesOf P (s .heap))) in
+      let lt = length-tables P (s .heap) in
+      let c = Val.location (placeIn (classNames P) (codes "Map")) in
+      let R₁ = write R (suc t) o in
+      let R₂ = write R₁ z classKey in
+      let R₃ = write R₂ (suc z) c in
+      let o₃ = has-other R₂ (suc z) (suc t) c (λ y. omega arith) (has-other R₁ z (suc t) classKey (λ y. omega arith) (has-written R (suc t) o)) in
+      let k₃ = has-other R₂ (suc z) z c (λ y. omega arith) (has-written R₁ z classKey) in
+      let o-at = subst (λ (n : ℕ). Has R₃ (suc t) (Val.location n)) lt o₃ in
+      let h₃ = scratch P L (suc z) c (omega arith) (scratch P L z classKey (omega arith) (scratch P L (suc t) o (omega arith) h)) in
+      let hs₃ = hold-other R₂ (suc z) c (omega arith) (hold-other R₁ z classKey (omega arith) (hold-below R (suc t) o (omega arith) hs)) in
+      step-then (do-mkTab (head g) (omega arith) l)
+      (step-then (do-const (head (tail g)) (omega arith))
+      (step-then (do-rdGlob (head (tail (tail g))) (omega arith) (globals .classes (codes "Map") refl))
+      (step-then (do-wrTab (head (tail (tail (tail g)))) o-at (new-table-here P (s .heap)) k₃ (has-written R₂ (suc z) c) x)
+      (rw (make-object P (s .heap) (codes "Map")) (contents-then s b R₃ e m zl zb h₃ o-at hs₃ (tail (tail (tail (tail g)))))))))
+
+  -- the code and the meaning of making, by which class it is
+  abbrev makeBy : Bool → Bool → Bool → List ℕ → ℕ → ℕ → List Instr
+  makeBy i u m D t z =
+      cond i (Instr.const (suc t) (number 0) ∷ [])
+      (cond u (Instr.const (suc t) (Val.string []) ∷ [])
+      (Instr.mkTab (suc t) ∷ Instr.const z classKey ∷ Instr.rdGlob (suc z) (classGlobal P D) ∷ Instr.wrTab (suc t) z (suc z) ∷ cond m (Instr.mkTab (suc z) ∷ Instr.const z contentsKey ∷ Instr.wrTab (suc t) z (suc z) ∷ []) []))
+
+  abbrev madeBy : Bool → Bool → List ℕ → State → Res Val
+  madeBy i u D s = cond i (val (Val.int (pos 0)) s) (cond u (val (Val.string []) s) (meaning.makeObject within D s))
+
+  make-by : {k f p q t d z : ℕ} {ns : List (List ℕ)} {me : Val} {S : List Frame} {R₀ : Registers} {H₀ : Heap} {R : Registers} {ws : List Val} (s : State) (D : List ℕ) (i u m : Bool)
+      → sameBytes D (codes "Integer") ≡ i → sameBytes D (codes "String") ≡ u → sameBytes D (codes "Map") ≡ m
+      → known P D ≡ true → suc (suc t) + length ws ≤ z → z + 1 < registersPerFrame → Pre P L ns me d t S R₀ H₀ R s → Hold R (suc (suc t)) ws → Seg C f p (makeBy i u m D t z) q
+      → Sim P C L G k (at f p R S (world P G s)) 100 (s .counted) f q S (Born D ns me d t S R₀ H₀ ws s) (madeBy i u D s)
+  make-by s D true u m a b c kn zl zb h hs g = value-then s D (Val.int (pos 0)) integer (sym (sameBytes-decides D (codes "Integer") .0 a)) (omega arith) h hs g
+  make-by s D false true m a b c kn zl zb h hs g = value-then s D (Val.string []) text (sym (sameBytes-decides D (codes "String") .0 b)) (omega arith) h hs g
+  make-by s D false false false a b c kn zl zb h hs g = object-then s D _ refl (makes-object P L D (s .heap) (h .proper .space) c) kn c b a zl zb h hs g
+  make-by s D false false true a b c kn zl zb h hs g =
+      let e = sameBytes-decides D (codes "Map") .0 c in
+      rw e (map-then s _ refl (makes-map P L (s .heap) (h .proper .space)) zl zb h hs (rw e at g))
+
+  -- an object of any class that can be made
+  pub make-then : {k f p q t d z : ℕ} {ns : List (List ℕ)} {me : Val} {S : List Frame} {R₀ : Registers} {H₀ : Heap} {R : Registers} {ws : List Val} (s : State) (D : List ℕ)
+      → known P D ≡ true → suc (suc t) + length ws ≤ z → z + 1 < registersPerFrame → Pre P L ns me d t S R₀ H₀ R s → Hold R (suc (suc t)) ws → Seg C f p (code.make P D (suc t) z) q
+      → Sim P C L G k (at f p R S (world P G s)) 100 (s .counted) f q S (Born D ns me d t S R₀ H₀ ws s) (meaning.make within D s)
+  make-then s D kn zl zb h hs g = make-by s D (sameBytes D (codes "Integer")) (sameBytes D (codes "String")) (sameBytes D (codes "Map")) refl refl refl kn zl zb h hs g
