@@ -15,6 +15,10 @@ pub mod Returning
 pub mod Classed
 pub mod Fields
 pub mod Calls
+pub mod Endings
+pub mod Tests
+pub mod Receivers
+pub mod Operations
 pub mod Methods
 pub mod Closing
 pub mod Fitted
