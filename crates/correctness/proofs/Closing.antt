@@ -59,8 +59,3 @@ module _ {A : Type 0} (P : Classes A) (L : Limits) (C : Program) (G : Table) (gl
 
   Ending-of : ℕ → Unit {0} → State → Registers → Type 0
   Ending-of t u s R = Set R t
-
-  -- a print that fits, or the ending that it gives
-  print-legal : (w : List ℕ) (o : Effects) (e : Ending) → print w o ≡ Err e → legal e ≡ true
-  unfolding print
-  print-legal w o e h = ?

@@ -43,23 +43,10 @@ use Rattle.correctness.proofs.Returning.{Except, has-except, except-pre}
 use Rattle.correctness.proofs.Judged.{Pre, Post, Good, first, next, answer, scratch}
 use Rattle.correctness.proofs.Tabled.{object-here, object-table-here, read-field, equal-classes}
 use Rattle.correctness.proofs.Classed.{one, two, classAt, class-then}
+use Rattle.correctness.proofs.Tests.{truth-then}
 use Rattle.correctness.proofs.Forms.{nil-fine, branch, setting, Ok, fit-below}
 
 module _ {A : Type 0} (P : Classes A) (L : Limits) (C : Program) (G : Table) (globals : Globals P G) where
-  -- 1 or nil into t, by a test in d
-  pub truth-then : {X : Type 0} {Φ : X → State → Registers → Type 0} {k c n f p q′ q t d : ℕ} {S : List Frame} {R : Registers} {x : Res X} (s : State) (b : Bool)
-      → t < registersPerFrame → Seg C f p (truthInto t d) q′ → Has R d (truth b)
-      → Sim P C L G k (at f q′ (write R t (shift P (heap.truth b))) S (world P G s)) c n f q S Φ x
-      → Sim P C L G k (at f p R S (world P G s)) (suc (suc (suc c))) n f q S Φ x
-  truth-then {R = R} s true b g h x =
-      step-then (do-ifOther (head g) h refl)
-      (step-then (do-const (head (tail g)) b)
-      (step-then (do-jmp (head (tail (tail g))) (forward _ _ _ (omega (arith, seg-end g)))) x))
-  truth-then {c = c} s false b g h x =
-      slack {c = suc (suc c)} (suc (suc (suc c))) (omega arith)
-      (step-then (do-ifZero (head g) h (forward _ _ _ (two _)))
-      (step-then (do-rdGlob (head (tail (tail (tail g)))) b (globals .nils)) (rw (last (tail (tail (tail g)))) x)))
-
   -- a value of the language has a known class
   pub fine-known : {H : Heap} {v : Val} → Fine P H v → known P (classOf H v) ≡ true
   fine-known integer = refl
@@ -167,7 +154,7 @@ module _ {A : Type 0} (P : Classes A) (L : Limits) (C : Program) (G : Table) (gl
           step-then (do-rdGlob (head (x .right)) b (globals .classes E n))
           (step-then (do-eq (head (tail (x .right))) (omega arith) (has-other R′ (t + 2) (suc t) l (λ z. omega arith) c) (has-written R′ (t + 2) l))
           (rw (equal-classes P (classOf (s .heap) v) E (fine-known w) n)
-          (truth-then {c = 105} s t₂ (omega arith) (tail (tail (x .right))) (has-written R₁ (suc t) (truth t₂))
+          (truth-then P L C G {c = 105} s t₂ globals (omega arith) (tail (tail (x .right))) (has-written R₁ (suc t) (truth t₂))
           (done refl (answer P L φ (truth-fine t₂ (nil-fine P L C G globals (h .proper .heap-fine .fine)))))))))
 
     pub instanceOf-good : (a : A) (e : Expr A) (E : List ℕ) → Ok P L C G globals k again e → Ok P L C G globals k again (Expr.instanceOf a e E)

@@ -13,10 +13,10 @@ pub mod Judged
 pub mod Forms
 pub mod Returning
 pub mod Classed
-pub mod Fields
-pub mod Calls
 pub mod Endings
 pub mod Tests
+pub mod Fields
+pub mod Calls
 pub mod Receivers
 pub mod Operations
 pub mod Methods

@@ -42,6 +42,7 @@ use Rattle.correctness.proofs.Following.{Sim, bind, count-then, step-then, sla
 use Rattle.correctness.proofs.Registers.{has-written, has-other, keep-same}
 use Rattle.std.proofs.shelf.Lists.{length-append}
 use Rattle.correctness.proofs.Slots.{enters, slots-begin}
+use Rattle.correctness.proofs.Tests.{count-test}
 use Rattle.correctness.proofs.Forms.{fit-below}
 use Rattle.correctness.proofs.Returning.{Except, has-except, grows-same, Back}
 use Rattle.correctness.proofs.Judged.{Pre, Post, Good}
@@ -49,39 +50,6 @@ use Rattle.correctness.proofs.Classed.{one, two, except-two}
 use Rattle.correctness.proofs.Calls.{block}
 
 module _ {A : Type 0} (P : Classes A) (L : Limits) (C : Program) (G : Table) where
-  count-equal : (n m : ℕ) → equalVal (number n) (number m) ≡ eqb n m
-  unfolding equalVal
-  count-equal n m = refl
-
-  -- a callee's first test: as many arguments as parameters, or the run ends
-  pub count-test : {X : Type 0} {Φ : X → State → Registers → Type 0} {k c g p q′ f q t : ℕ} {S S′ : List Frame} {R : Registers} {y : Res X} (s : State) (m n : ℕ) (b : Bool)
-      → eqb m n ≡ b → t < registersPerFrame → t ≢ 0 → Has R 0 (number m) → Seg C g p (countTest t n) q′
-      → (b ≡ true → (R′ : Registers) → Except t R R′ → Sim P C L G k (at g q′ R′ S (world P G s)) c (s .counted) f q S′ Φ y)
-      → Sim P C L G k (at g p R S (world P G s)) (suc (suc (suc (suc (suc c))))) (s .counted) f q S′ Φ (unless WrongArgumentCount b s y)
-  count-test {c = c} {t = t} {R = R} s m n true e u z h g κ =
-      let i : n ≡ m = sym (eqb-true m n e) in
-      let R₁ = write R t (number n) in
-      let v = equalVal (number n) (number m) in
-      let is : v ≡ true = count-equal n m ∙ eq-eqb n m i in
-      let m₁ = has-other R t 0 (number n) z h in
-      step-then (do-const (head g) u)
-      (step-then (do-eq (head (tail g)) u (has-written R t (number n)) m₁)
-      (rw is (step-then (do-ifOther (head (tail (tail g))) (has-written R₁ t (truth true)) refl)
-      (step-then (do-jmp (head (tail (tail (tail g)))) (forward _ _ _ (omega (arith, seg-end g))))
-      (slack (suc c) (omega arith) (κ refl _ (except-two R t (number n) (truth true))))))))
-  count-test {c = c} {t = t} {R = R} s m n false e u z h g κ =
-      let i : n ≡ m → ⊥ = λ w. eqb-false m n e (sym w) in
-      let R₁ = write R t (number n) in
-      let R₂ = write R₁ t (truth false) in
-      let v = equalVal (number n) (number m) in
-      let is : v ≡ false = count-equal n m ∙ ne-eqb n m i in
-      let m₁ = has-other R t 0 (number n) z h in
-      step-then (do-const (head g) u)
-      (step-then (do-eq (head (tail g)) u (has-written R t (number n)) m₁)
-      (rw is (step-then (do-ifZero (head (tail (tail g))) (has-written R₁ t (truth false)) (forward _ _ _ (one _)))
-      (step-then (do-const (head (tail (tail (tail (tail g))))) u)
-      (ending refl (end-halt (head (tail (tail (tail (tail (tail g)))))) (has-written R₂ t (number 5))))))))
-
   -- what the marks leave: the registers from r on hold marks, the others are as they were
   pub record Marked (r n : ℕ) (R R′ : Registers) : Type 0 where
     pub marked : (i : ℕ) → r ≤ i → i < r + n → Has R′ i mark
@@ -148,11 +116,10 @@ module _ {A : Type 0} (P : Classes A) (L : Limits) (C : Program) (G : Table) whe
         let long : length ps ≤ length ns = rw (begins .1) (simp length-append (omega arith)) in
         let T-below = fit-below ns e T fit in
         let s₁ = withLocals (bound ps vs) (evaluation.count s) in
-        count-test s (length vs) (length ps) (eqb (length vs) (length ps)) refl T-below (λ w. omega arith) (passed-has r vs 0 (number (length vs)) refl) (x .left)
-        (λ same R₁ ex. count-then (slack {c = length ns - length ps + 1} 128 (omega arith)
+        count-test P L C G s T-below (λ w. omega arith) (passed-has r vs 0 (number (length vs)) refl) (x .left)
+        (λ n R₁ ex. count-then (slack {c = length ns - length ps + 1} 128 (omega arith)
           (marks-then s₁ (2 + length ps) (length ns - length ps) R₁ (omega arith) (z .left)
           (λ R₂ mk.
-            let n = eqb-true (length vs) (length ps) same in
             bind (rec e .sim (record {
                 room = omega arith;
                 frames = frames;
