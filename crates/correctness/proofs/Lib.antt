@@ -30,3 +30,5 @@ pub mod Orderly
 pub mod StartUp
 pub mod Objects
 pub mod News
+pub mod Called
+pub mod Induction
