@@ -32,3 +32,4 @@ pub mod Objects
 pub mod News
 pub mod Called
 pub mod Induction
+pub mod Whole
