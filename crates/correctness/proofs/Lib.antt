@@ -33,4 +33,3 @@ pub mod News
 pub mod Called
 pub mod Induction
 pub mod Whole
-pub mod Bounded
