@@ -1,0 +1,6 @@
+pub mod Layout
+pub mod Pieces
+pub mod Body
+pub mod Builtins
+pub mod Whole
+pub mod Samples

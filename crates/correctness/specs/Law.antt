@@ -1,0 +1,48 @@
+-- The law of compiled rules: on the machine a rule does what its meaning says, is never stuck, and is in time. Assumes nothing.
+use mathlib.Core.Path.{_≡_}
+use mathlib.Core.List.{[]}
+use Prim.Native.Nat.{ℕ, _≤_}
+use Rattle.std.specs.shelf.Lists.{All}
+use Rattle.machine.specs.declared.ending.Ending.{Ending}
+use Rattle.machine.specs.Ending.{numberOf}
+use Rattle.machine.specs.Limits.{Limits}
+use Rattle.machine.specs.Effects.{Effects}
+use Rattle.machine.specs.State.{ends, initial}
+use Rattle.machine.specs.Run.{run}
+use Rattle.grammar.specs.Tree.{Expr}
+use Rattle.grammar.specs.Measure.{BodyWithin}
+use Rattle.rube.specs.Classes.{Classes}
+use Rattle.rube.specs.Meaning.{Ended, Ends}
+use Rattle.rube.specs.Bounds.{stepBound}
+use Rattle.compiler.specs.Whole.{program}
+use Rattle.correctness.specs.Accepted.{Accepted, Few}
+use Rattle.correctness.specs.CodeSize.{ClassesWithin}
+use Rattle.correctness.specs.Spelled.{Spelled, SpelledClass}
+
+module _ {A : Type 0} where
+  -- classes and a rule as reading and accepting them leaves them
+  pub record Compilable (P : Classes A) (e : Expr A) : Type 0 where
+    -- each class was accepted after those before it, and they are not too many
+    pub accepted : Accepted P
+    pub few : Few P
+    -- methods and rule keep the limits on names, arguments, depth and literals
+    pub classes-within : ClassesWithin P
+    pub rule-within : BodyWithin [] e
+    -- names are spelled as the language's tokens
+    pub classes-spelled : All SpelledClass P
+    pub rule-spelled : Spelled e
+
+  -- the compiled rule against its meaning, with a store of this size and so much output left
+  pub record Correct (P : Classes A) (e : Expr A) (L : Limits) (left : ℕ) : Type 0 where
+    -- what the machine ends with, the meaning ends with, and the output is the same
+    pub same : (j : ℕ) (x : Ending) (o : Effects) → run (program P e) L j (initial left) ≡ ends x o
+        → (n : ℕ) × Ends (record { classes = P; limits = L }) left e (record { ending = x; output = o .output; counted = n })
+    -- the endings are those of the language, 0 to 12: the machine is never stuck
+    pub never-stuck : (j : ℕ) (x : Ending) (o : Effects) → run (program P e) L j (initial left) ≡ ends x o → numberOf x ≤ 12
+    -- what the meaning ends with, the machine ends with, in as many steps as the counted rules allow, and the output is the same
+    pub in-time : (r : Ended) → Ends (record { classes = P; limits = L }) left e r
+        → (o : Effects) × (run (program P e) L (stepBound P (r .counted)) (initial left) ≡ ends (r .ending) o) × (o .output ≡ r .output)
+
+-- for every rule over accepted classes, every store and every output, whatever is noted at the nodes of the trees
+abbrev pub Law : Type 0 → Type 0
+Law A = (P : Classes A) (e : Expr A) (L : Limits) (left : ℕ) → Compilable P e → Correct P e L left

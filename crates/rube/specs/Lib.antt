@@ -1,0 +1,9 @@
+pub mod Builtin
+pub mod Classes
+pub mod Heap
+pub mod Evaluation
+pub mod Methods
+pub mod Meaning
+pub mod Clock
+pub mod Bounds
+pub mod Samples
