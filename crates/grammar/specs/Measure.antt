@@ -7,6 +7,7 @@ use lib.IntN.{ℤ, pos, negℤ}
 use lib.Signed.{_≤ℤ_}
 use lib.ListN.{length}
 use Rattle.std.specs.shelf.Text.{sameBytes}
+use Rattle.lexer.specs.Byte.{minus}
 use Rattle.grammar.specs.Tree.{Expr, Args, Method, Text}
 use Rattle.grammar.specs.Limits.{smallestInteger, largestInteger, stringLimit, argumentLimit, nameLimit, depthLimit}
 
@@ -119,10 +120,6 @@ abbrev mutual
 abbrev pub digitsFrom : ℕ → List ℕ → ℕ
 digitsFrom n [] = n
 digitsFrom n (b ∷ bs) = digitsFrom (10 * n + (b - 48)) bs
-
--- the byte `-`
-abbrev pub minus : ℕ
-minus = 45
 
 -- the value of an integer's bytes: digits, with a `-` before them or not
 abbrev pub valueOf : List ℕ → ℤ
