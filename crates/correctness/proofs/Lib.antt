@@ -33,3 +33,4 @@ pub mod News
 pub mod Called
 pub mod Induction
 pub mod Whole
+pub mod Bounded

@@ -1,23 +1,26 @@
 -- The law of compiled rules: on the machine a rule does what its meaning says, is never stuck, and is in time. Assumes nothing.
 use mathlib.Core.Path.{_≡_}
-use mathlib.Core.List.{[]}
-use Prim.Native.Nat.{ℕ, _≤_}
+use mathlib.Core.List.{List, [], map}
+use Prim.Native.Nat.{ℕ, suc, _≤_}
 use Rattle.std.specs.shelf.Lists.{All}
 use Rattle.machine.specs.declared.ending.Ending.{Ending}
 use Rattle.machine.specs.Ending.{numberOf}
-use Rattle.machine.specs.Limits.{Limits}
+use Rattle.machine.specs.Limits.{Limits, mostGlobals}
 use Rattle.machine.specs.Effects.{Effects}
 use Rattle.machine.specs.State.{ends, initial}
 use Rattle.machine.specs.Run.{run}
-use Rattle.grammar.specs.Tree.{Expr}
+use Rattle.lexer.specs.Tokens.{Placed, Tokens, tokens}
+use Rattle.grammar.specs.Tree.{Expr, BareText}
+use Rattle.grammar.specs.Grammar.{Kind}
+use Rattle.grammar.specs.Machine.{Outcome, parse}
 use Rattle.grammar.specs.Measure.{BodyWithin}
-use Rattle.rube.specs.Classes.{Classes}
+use Rattle.rube.specs.Classes.{Classes, classCount}
 use Rattle.rube.specs.Meaning.{Ended, Ends}
-use Rattle.rube.specs.Bounds.{stepBound}
+use Rattle.rube.specs.Bounds.{stepBound, codeBound}
 use Rattle.compiler.specs.Whole.{program}
 use Rattle.correctness.specs.Accepted.{Accepted, Few}
-use Rattle.correctness.specs.CodeSize.{ClassesWithin}
-use Rattle.correctness.specs.Spelled.{Spelled, SpelledClass}
+use Rattle.correctness.specs.CodeSize.{ClassesWithin, instructions, GlobalsBelow}
+use Rattle.correctness.specs.Spelled.{Spelled, SpelledClass, SpelledText}
 
 module _ {A : Type 0} where
   -- classes and a rule as reading and accepting them leaves them
@@ -46,3 +49,19 @@ module _ {A : Type 0} where
 -- for every rule over accepted classes, every store and every output, whatever is noted at the nodes of the trees
 abbrev pub Law : Type 0 → Type 0
 Law A = (P : Classes A) (e : Expr A) (L : Limits) (left : ℕ) → Compilable P e → Correct P e L left
+
+-- what the code of a rule takes of the machine
+pub record Sized {A : Type 0} (P : Classes A) (e : Expr A) : Type 0 where
+  pub instructions-few : instructions (program P e) ≤ codeBound P e
+  -- one global for nil and one for each class
+  pub globals-below : GlobalsBelow (suc (classCount P)) (program P e)
+  pub globals-few : suc (classCount P) ≤ mostGlobals
+
+abbrev pub CodeLaw : Type 0 → Type 0
+CodeLaw A = (P : Classes A) (e : Expr A) → Compilable P e → Sized P e
+
+-- a text that was taken apart into tokens and read as a tree is spelled
+abbrev pub TextLaw : Type 0
+TextLaw =
+    (κ : Kind) (text : List ℕ) (ps : List Placed) (t : BareText) → tokens text ≡ Tokens.all ps
+    → parse κ (map (λ p. p .token) ps) ≡ Outcome.accepted t → SpelledText t
