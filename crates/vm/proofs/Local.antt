@@ -6,6 +6,7 @@ use Prim.Native.Nat.{ℕ, suc}
 use lib.Dec.{ltb}
 use lib.IntN.{ℤ}
 use lib.ListN.{length}
+use Rattle.std.specs.declared.option.Option.the-variants.{Some, None}
 use Rattle.std.specs.declared.result.Result.the-variants.{Ok, Err}
 use Rattle.store.specs.Val.{Val}
 use Rattle.store.specs.Tables as store
@@ -18,7 +19,8 @@ use Rattle.machine.specs.Instr.{Instr, Program}
 use Rattle.machine.specs.State.{Registers, write, Frame, World, withTables, withGlobals, State, at}
 use Rattle.machine.specs.Operands.{valueAt, tableAt, isZero, arithAt, sameAt, orderedAt, kindAt, keyAt, hasKeyAt, globalAt}
 use Rattle.machine.specs.Step.{into, jump, holdsGlobal, setGlobal, makeTable, setKey, exec}
-use Rattle.vm.specs.Local.{Local, intoAt, jumpFrom, ifZeroFrom, setGlobalAt, makeAt, setKeyAt, act, answerOr, local, Stays}
+use Rattle.vm.specs.Answering.{answerOf}
+use Rattle.vm.specs.Local.{Local, setAt, intoAt, jumpFrom, ifZeroFrom, setGlobalAt, makeAt, setKeyAt, act, answerOr, local, Stays}
 
 bind-bind : {A B C : Type 0} (x : Outcome A) (f : A → Outcome B) (g : B → Outcome C) → (x >>= f) >>= g ≡ x >>= (λ a. f a >>= g)
 bind-bind (Ok a) f g = refl
@@ -104,3 +106,23 @@ module _ (P : Program) (L : Limits) (f pc : ℕ) (R : Registers) (S : List Frame
   exec-local (Instr.call a first last) h = absurd h
   exec-local (Instr.ret a) h = absurd h
   exec-local (Instr.halt a) h = absurd h
+
+-- an instruction that answers a value, told by the registers after it
+module _ (L : Limits) (i : Instr) (pc : ℕ) (R : Registers) (T : Tables) (G : Table) where
+  pub local-acts : None ≡ answerOf i R T G → local L i pc R T G ≡ act L i pc R T G
+  unfolding local
+  local-acts e = rw (← e)
+
+  module _ (a : ℕ) (x : Outcome Val) (e : Some (a, x) ≡ answerOf i R T G) where
+    into-set : local L i pc R T G ≡ setAt a x R >>= (λ Q. Ok record { pc = suc pc; registers = Q; tables = T; globals = G })
+    unfolding local
+    into-set =
+        rw (← e)
+        (sym (unless-bind Stuck (ltb a registersPerFrame) (x >>= (λ v. Ok (write R a v))) (λ Q. Ok record { pc = suc pc; registers = Q; tables = T; globals = G })
+        ∙ ap (unless Stuck (ltb a registersPerFrame)) (bind-bind x (λ v. Ok (write R a v)) (λ Q. Ok record { pc = suc pc; registers = Q; tables = T; globals = G }))))
+
+    pub local-set : (p : ℕ) (Q : Registers) → p ≡ suc pc → Ok Q ≡ setAt a x R → local L i pc R T G ≡ Ok record { pc = p; registers = Q; tables = T; globals = G }
+    local-set p Q f h = into-set ∙ rw (← h, f)
+
+    pub local-refused : (c : Ending) → Err c ≡ setAt a x R → local L i pc R T G ≡ Err c
+    local-refused c h = into-set ∙ rw (← h)

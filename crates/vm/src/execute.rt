@@ -9,8 +9,9 @@ ghost use Rattle.machine.specs.Instr.{instr};
 ghost use Rattle.vm.specs.Slots.{registersOf, answered, Within, EndsBy};
 ghost use Rattle.vm.specs.Globals.{globalsOf, GlobalsWithin};
 ghost use Rattle.vm.specs.Answering.{constantEnd};
-ghost use Rattle.vm.specs.Local.{jumpFrom, ifZeroFrom, setGlobalAt, setKeyAt, setAt, placed, registersAfter, globalsAfter, Unchanged, Made, endedBy, Wrote, limits, act, Executed};
+ghost use Rattle.vm.specs.Local.{jumpFrom, ifZeroFrom, setGlobalAt, setKeyAt, setAt, placed, registersAfter, globalsAfter, Unchanged, Made, endedBy, Wrote, limits, act, local, Executed};
 use crate::answer::Answer;
+use crate::answer::answer_of;
 use crate::frame::Place;
 use crate::globals::Globals;
 use crate::operands::location;
@@ -176,5 +177,28 @@ fn act<S: Store>(
             Ok(behind(pc))
         }
         _ => Err(Ending::Stuck),
+    }
+}
+
+// One instruction that stays in its frame: where the frame goes on, or how the run ends.
+pub(crate) fn execute<S: Store>(
+    i: Instruction,
+    pc: Place,
+    registers: &mut [Option<Value>],
+    globals: &mut Globals,
+    store: &mut S,
+    bytes: Bytes<'_, '_, '_>,
+) -> Result<Place, Ending>
+    requires { ⌜ pc .0 < 2 ^ 32 ⌝ }
+    ensures executed { λ r. ⌜ ((T : Tables) → S·Store .holds (now (store .entry)) (memoryOf (bytes .entry)) T → length (now (registers .entry)) ≡ registersPerFrame → Executed (memoryOf (bytes .entry)) (local (limits (S·Store .tables (now (store .entry))) (S·Store .room (now (store .entry)))) (instr (memoryOf (bytes .entry)) i) (pc .0) (registersOf (memoryOf (bytes .entry)) (now (registers .entry))) T (globalsOf (memoryOf (bytes .entry)) (now (globals .entry)))) T r (now (registers .entry)) (now (registers .exit)) (now (globals .entry)) (now (globals .exit)) (S·Store .holds (now (store .exit)) (memoryOf (bytes .entry)))) ⌝ }
+    ensures within { λ _. ⌜ ((u : ℕ) → Within u (now (registers .entry)) → GlobalsWithin u (now (globals .entry)) → S·Store .within (now (store .entry)) u → constantEnd i ≤ u → Within u (now (registers .exit)) × GlobalsWithin u (now (globals .exit)) × S·Store .within (now (store .exit)) u) ⌝ }
+    ensures limits { λ _. ⌜ (S·Store .tables (now (store .exit)) ≡ S·Store .tables (now (store .entry))) × (S·Store .room (now (store .exit)) ≡ S·Store .room (now (store .entry))) ⌝ }
+{
+    match answer_of(i, registers, globals, store, bytes) {
+        Some(answer) => {
+            set(registers, answer)?;
+            Ok(behind(pc))
+        }
+        None => act(i, pc, registers, globals, store, bytes),
     }
 }
