@@ -1,2 +1,4 @@
 pub mod Slots
 pub mod Globals
+pub mod Answering
+pub mod Local

@@ -5,9 +5,11 @@ ghost use lib.ListN.{getD};
 ghost use Rattle.std.specs.declared.option.Option.the-variants.{None};
 ghost use Rattle.text.specs.Memory.{Memory, memoryOf};
 ghost use Rattle.store.specs.Val.{meaning, endOf};
+ghost use Rattle.store.specs.Answers.{meant};
 ghost use Rattle.store.specs.Tables.{Tables};
+ghost use Rattle.machine.specs.Outcome.{need};
 ghost use Rattle.machine.specs.Operands.{valueAt, integerAt, functionAt, tableAt, truth, isOf, arithAt, orderedAt, sameAt, kindAt};
-ghost use Rattle.vm.specs.Slots.{registersOf, answered, numbered, Located, Within, EndsBy};
+ghost use Rattle.vm.specs.Slots.{registersOf, answered, numbered, Located, slotEnd, Within, EndsBy};
 use machine::arith::Op;
 use machine::arith::Order;
 use machine::arith::compute;
@@ -33,14 +35,22 @@ fn slot(registers: &[Option<Value>], a: Register) -> Option<Value>
     }
 }
 
+// A value that has to be there.
+pub(crate) fn required(o: Option<Value>) -> Result<Value, Ending>
+    ensures needed { λ r. ⌜ ((m : Memory) → answered m r ≡ need (meant m o)) ⌝ }
+    ensures within { λ r. ⌜ ((u : ℕ) → slotEnd o ≤ u → EndsBy u r) ⌝ }
+{
+    match o {
+        Some(v) => Ok(v),
+        None => Err(Ending::Stuck),
+    }
+}
+
 pub(crate) fn value(registers: &[Option<Value>], a: Register) -> Result<Value, Ending>
     ensures held { λ r. ⌜ ((m : Memory) → answered m r ≡ valueAt (registersOf m (now (registers .entry))) (a .0)) ⌝ }
     ensures within { λ r. ⌜ ((u : ℕ) → Within u (now (registers .entry)) → EndsBy u r) ⌝ }
 {
-    match slot(registers, a) {
-        Some(v) => Ok(v),
-        None => Err(Ending::Stuck),
-    }
+    required(slot(registers, a))
 }
 
 pub(crate) fn integer(registers: &[Option<Value>], a: Register) -> Result<i32, Ending>
@@ -70,8 +80,8 @@ pub(crate) fn location(registers: &[Option<Value>], a: Register) -> Result<Locat
     }
 }
 
-fn truth(b: bool) -> Value
-    ensures { λ r. ⌜ ((m : Memory) → meaning m r ≡ truth b) ⌝ }
+pub(crate) fn truth(b: bool) -> Value
+    ensures said { λ r. ⌜ ((m : Memory) → meaning m r ≡ truth b) ⌝ }
     ensures within { λ r. ⌜ endOf r ≡ 0 ⌝ }
 {
     if b { Value::Int(1) } else { Value::Int(0) }
@@ -84,7 +94,7 @@ pub(crate) fn arith(
     c: Register,
 ) -> Result<Value, Ending>
     ensures computed { λ r. ⌜ ((m : Memory) → answered m r ≡ arithAt op (registersOf m (now (registers .entry))) (b .0) (c .0)) ⌝ }
-    ensures within { λ r. ⌜ EndsBy 0 r ⌝ }
+    ensures within { λ r. ⌜ ((u : ℕ) → EndsBy u r) ⌝ }
 {
     let x = integer(registers, b)?;
     let y = integer(registers, c)?;
@@ -99,7 +109,7 @@ pub(crate) fn ordered(
     c: Register,
 ) -> Result<Value, Ending>
     ensures computed { λ r. ⌜ ((m : Memory) → answered m r ≡ orderedAt order (registersOf m (now (registers .entry))) (b .0) (c .0)) ⌝ }
-    ensures within { λ r. ⌜ EndsBy 0 r ⌝ }
+    ensures within { λ r. ⌜ ((u : ℕ) → EndsBy u r) ⌝ }
 {
     let x = integer(registers, b)?;
     let y = integer(registers, c)?;
@@ -113,7 +123,7 @@ pub(crate) fn equal(
     bytes: Bytes<'_, '_, '_>,
 ) -> Result<Value, Ending>
     ensures computed { λ r. ⌜ answered (memoryOf (bytes .entry)) r ≡ sameAt (registersOf (memoryOf (bytes .entry)) (now (registers .entry))) (b .0) (c .0) ⌝ }
-    ensures within { λ r. ⌜ EndsBy 0 r ⌝ }
+    ensures within { λ r. ⌜ ((u : ℕ) → EndsBy u r) ⌝ }
 {
     let x = value(registers, b)?;
     let y = value(registers, c)?;
@@ -133,7 +143,7 @@ fn is_of(kind: Kind, v: Value) -> bool
 
 pub(crate) fn kind(registers: &[Option<Value>], kind: Kind, b: Register) -> Result<Value, Ending>
     ensures computed { λ r. ⌜ ((m : Memory) → answered m r ≡ kindAt kind (registersOf m (now (registers .entry))) (b .0)) ⌝ }
-    ensures within { λ r. ⌜ EndsBy 0 r ⌝ }
+    ensures within { λ r. ⌜ ((u : ℕ) → EndsBy u r) ⌝ }
 {
     let x = value(registers, b)?;
     Ok(truth(is_of(kind, x)))

@@ -10,8 +10,8 @@ returns c =
     let m = memoryOf (c .args .bytes) in
     let p = c .in-Continue-x .ensures tt .held m in
     let q = c .in-Continue-y .ensures tt .held m in
-    let t = c .truth .ensures .0 m in
+    let t = c .truth .ensures .said m in
     record {
       computed = compared (registersOf m (c .args .registers .now)) (c .args .b .0) (c .args .c .0) _ _ _ (c .same .result) p q (c .same .ensures) t;
-      within = let z = c .truth .ensures .within in omega arith;
+      within = λ u. let z = c .truth .ensures .within in omega arith;
     }
