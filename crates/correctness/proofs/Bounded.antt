@@ -1,6 +1,10 @@
 -- What compiled code takes, and what reading promises of names. Assumes nothing.
+use native.Mathlib.Omega.{arith}
+use Rattle.std.proofs.shelf.Lists.{length-append, length-map}
 use Rattle.rube.specs.Classes.{Classes}
 use Rattle.correctness.specs.Law.{CodeLaw, TextLaw}
+use Rattle.correctness.proofs.Lookup.{all-methods-length}
+use Rattle.correctness.proofs.Fitted.{fitted, all-methods-fitted}
 use Rattle.correctness.proofs.CodeLength.{code-bounded}
 use Rattle.correctness.proofs.GlobalsUsed as used
 use Rattle.correctness.proofs.Spelling.{read-spelled}
@@ -11,6 +15,9 @@ code-law P e w =
       instructions-few = code-bounded P (w .classes-within) (w .rule-within);
       globals-below = used.globals-below P e;
       globals-few = used.globals-few P (w .few .few-classes);
+      functions-few = let few = w .few .few-methods in let all = all-methods-length P in simp (length-append, length-map) (omega arith);
+      rule-fits = fitted (w .rule-within) (w .rule-spelled);
+      methods-fit = all-methods-fitted P (w .classes-within) (w .classes-spelled);
     }
 
 pub text-law : TextLaw

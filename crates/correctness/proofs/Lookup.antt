@@ -345,7 +345,7 @@ module _ {A : Type 0} where
       (r .0, suited-new C o new ∙ sym (suited-parent older (K .parent) o (a .1) (a .0 .parent-there)) ∙ r .1)
   suited-found a (by-older p g) = suited-found (a .1) g
 
-  all-methods-length : (P : Classes A) → length (allMethods P) ≡ addedMethods P
+  pub all-methods-length : (P : Classes A) → length (allMethods P) ≡ addedMethods P
   all-methods-length [] = refl
   all-methods-length (K ∷ older) = omega (arith, length-append (allMethods older) (K .methods), all-methods-length older)
 

@@ -1,9 +1,12 @@
 -- The law of compiled rules: on the machine a rule does what its meaning says, is never stuck, and is in time. Assumes nothing.
 use mathlib.Core.Path.{_≡_}
 use mathlib.Core.List.{List, [], map}
-use Prim.Native.Nat.{ℕ, suc, _≤_}
+use Prim.Native.Nat.{ℕ, suc, _<_, _≤_}
+use lib.ListN.{length}
 use Rattle.std.specs.shelf.Lists.{All}
 use Rattle.machine.specs.declared.ending.Ending.{Ending}
+use Rattle.machine.specs.declared.builtin.Builtin.the-variants.{PrintValue}
+use Rattle.machine.specs.Builtin.{builtinNumber}
 use Rattle.machine.specs.Ending.{numberOf}
 use Rattle.machine.specs.Limits.{Limits, mostGlobals}
 use Rattle.machine.specs.Effects.{Effects}
@@ -14,10 +17,12 @@ use Rattle.grammar.specs.Tree.{Expr, BareText}
 use Rattle.grammar.specs.Grammar.{Kind}
 use Rattle.grammar.specs.Machine.{Outcome, parse}
 use Rattle.grammar.specs.Measure.{BodyWithin}
-use Rattle.rube.specs.Classes.{Classes, classCount}
+use Rattle.rube.specs.Classes.{Classes, classCount, allMethods}
 use Rattle.rube.specs.Meaning.{Ended, Ends}
 use Rattle.rube.specs.Bounds.{stepBound, codeBound}
+use Rattle.compiler.specs.Layout.{slots, free}
 use Rattle.compiler.specs.Whole.{program}
+use Rattle.correctness.specs.Fitting.{Fit}
 use Rattle.correctness.specs.Accepted.{Accepted, Few}
 use Rattle.correctness.specs.CodeSize.{ClassesWithin, instructions, GlobalsBelow}
 use Rattle.correctness.specs.Spelled.{Spelled, SpelledClass, SpelledText}
@@ -56,6 +61,11 @@ pub record Sized {A : Type 0} (P : Classes A) (e : Expr A) : Type 0 where
   -- one global for nil and one for each class
   pub globals-below : GlobalsBelow (suc (classCount P)) (program P e)
   pub globals-few : suc (classCount P) ≤ mostGlobals
+  -- functions are numbered below the machine's own
+  pub functions-few : length (program P e) < builtinNumber PrintValue
+  -- the rule's registers and those of every method are within a frame
+  pub rule-fits : Fit (slots [] e) e (free (slots [] e))
+  pub methods-fit : All (λ m. Fit (slots (m .parameters) (m .body)) (m .body) (free (slots (m .parameters) (m .body)))) (allMethods P)
 
 abbrev pub CodeLaw : Type 0 → Type 0
 CodeLaw A = (P : Classes A) (e : Expr A) → Compilable P e → Sized P e
