@@ -1,7 +1,6 @@
 -- What compiled code takes, and what reading promises of names. Assumes nothing.
 use native.Mathlib.Omega.{arith}
 use Rattle.std.proofs.shelf.Lists.{length-append, length-map}
-use Rattle.rube.specs.Classes.{Classes}
 use Rattle.correctness.specs.Law.{CodeLaw, TextLaw}
 use Rattle.correctness.proofs.Lookup.{all-methods-length}
 use Rattle.correctness.proofs.Fitted.{fitted, all-methods-fitted}

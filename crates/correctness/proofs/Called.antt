@@ -1,11 +1,9 @@
 -- Every method that a class finds can be called. Assumes nothing.
-use mathlib.Core.Path.{_≡_, refl, sym}
-use mathlib.Core.Logic.{_≢_}
+use mathlib.Core.Path.{_≡_, sym}
 use mathlib.Core.Bool.{true, false}
 use mathlib.Core.List.{List}
-use Prim.Native.Nat.{ℕ, zero, suc, _+_}
+use Prim.Native.Nat.{ℕ}
 use lib.Chars.{codes}
-use lib.ListN.{getD}
 use Rattle.std.specs.shelf.Lists.{All}
 use Rattle.std.specs.shelf.Text.{sameBytes}
 use Rattle.std.specs.declared.option.Option.the-variants.{Some}
@@ -17,8 +15,8 @@ use Rattle.grammar.specs.Tree.{Expr, Method}
 use Rattle.rube.specs.declared.builtin.BuiltinClass.{BuiltinClass}
 use Rattle.rube.specs.declared.builtin.BuiltinClass.the-variants.{Str, Integer, Map}
 use Rattle.rube.specs.Builtin.{className}
-use Rattle.rube.specs.Classes.{Callee, Classes, lookup, allMethods}
-use Rattle.rube.specs.Heap.{Heap, classOf, cellClass}
+use Rattle.rube.specs.Classes.{Callee, Classes, lookup}
+use Rattle.rube.specs.Heap.{Heap, classOf}
 use Rattle.rube.specs.Meaning.{Eval}
 use Rattle.compiler.specs.Whole.{program}
 use Rattle.correctness.specs.Accepted.{Accepted, Few}

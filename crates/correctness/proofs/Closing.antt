@@ -5,30 +5,25 @@ use mathlib.Core.List.{List, [], _∷_}
 use Prim.Native.Nat.{ℕ, suc, _+_, _<_}
 use native.Mathlib.Omega.{arith}
 use lib.Chars.{codes}
-use lib.Dec.{leb}
 use lib.IntN.{pos}
-use lib.ListN.{length}
 use Rattle.std.specs.declared.result.Result.the-variants.{Ok, Err}
 use Rattle.store.specs.Val.{Val}
 use Rattle.store.specs.Tables.{Table}
 use Rattle.machine.specs.declared.ending.Ending.{Ending}
-use Rattle.machine.specs.declared.ending.Ending.the-variants.{NoOutputSpace}
 use Rattle.machine.specs.declared.builtin.Builtin.the-variants.{PrintValue}
 use Rattle.machine.specs.declared.instruction.Kind.the-variants.{Text}
 use Rattle.machine.specs.Limits.{Limits, registersPerFrame}
-use Rattle.machine.specs.Outcome.{Outcome, unless}
+use Rattle.machine.specs.Outcome.{Outcome}
 use Rattle.machine.specs.Effects.{Effects, print}
-use Rattle.machine.specs.Effects as effects
 use Rattle.machine.specs.Builtin.{builtinNumber, apply, stringIn}
 use Rattle.machine.specs.Instr.{Instr, Program}
 use Rattle.machine.specs.Operands.{truth}
-use Rattle.machine.specs.State as machine
-use Rattle.machine.specs.State.{Registers, Frame, at, write}
+use Rattle.machine.specs.State.{Registers, at, write}
 use Rattle.machine.proofs.Judge.{Has, none, more, Fetch}
 use Rattle.machine.proofs.Exec.{do-const, do-mov, do-isKind, do-jmp, do-ifZero, do-ifOther, do-builtin, end-builtin, end-halt, forward}
 use Rattle.rube.specs.Classes.{Classes}
 use Rattle.rube.specs.Heap.{Heap, classOf}
-use Rattle.rube.specs.Evaluation.{State, Res, _>>=_, effect, outcome}
+use Rattle.rube.specs.Evaluation.{State, _>>=_, effect, outcome}
 use Rattle.rube.specs.Evaluation as evaluation
 use Rattle.rube.specs.Methods.{argument}
 use Rattle.rube.specs.Meaning.{Eval, close, printed, freeFrames}
@@ -36,7 +31,8 @@ use Rattle.compiler.specs.Pieces.{number, send}
 use Rattle.compiler.specs.Whole.{closeCode}
 use Rattle.correctness.proofs.Relation.{shift, world, Globals, Fine, integer, text, object}
 use Rattle.correctness.proofs.Segments.{Seg, split, seg-end, head, tail, last}
-use Rattle.correctness.proofs.Following.{Sim, sval, send as ends-so, sout, legal, after, count-then, step-then, slack, done, ending}
+use Rattle.correctness.proofs.Following.{Sim, bind-with, count-then, step-then, done, ending}
+use Rattle.correctness.proofs.Endings.{print-legal}
 use Rattle.correctness.proofs.Registers.{has-written, has-other}
 use Rattle.correctness.proofs.Judged.{Pre, scratch}
 use Rattle.correctness.proofs.Classed.{one, two}
@@ -47,21 +43,6 @@ use Rattle.correctness.proofs.Forms.{setting}
 pub record Set (R : Registers) (t : ℕ) : Type 0 where
   pub value : Val
   pub is : Has R t value
-
--- a part that spends b, and then what spends c
-pub bind-spent : {A X Y : Type 0} {P : Classes A} {C : Program} {L : Limits} {G : Table} {f q f′ q′ : ℕ} {S S′ : List Frame} {Φ : X → State → Registers → Type 0} {Ψ : Y → State → Registers → Type 0} {k b c n : ℕ} {m : machine.State} {x : Res X} {g : X → State → Res Y}
-    → Sim P C L G k m b n f q S Φ x → ((v : X) (s : State) (R : Registers) → Φ v s R → Sim P C L G k (at f q R S (world P G s)) c (s .counted) f′ q′ S′ Ψ (g v s)) → Sim P C L G k m (b + c) n f′ q′ S′ Ψ (x >>= g)
-bind-spent (sval {v = v} {s = s} j R h b φ) κ = after j h (omega arith) (omega arith) (κ v s R φ)
-bind-spent (ends-so j h b e) κ = ends-so j h (omega arith) e
-bind-spent (sout j m′ h b) κ = sout j m′ h b
-
--- a print that does not fit has an ending of the language
-pub print-legal : (w : List ℕ) (o : Effects) (e : Ending) → print w o ≡ Err e → legal e ≡ true
-unfolding print
-print-legal w o e h = by (leb (length w) (o .left)) h where
-  by : (b : Bool) → unless NoOutputSpace b (Ok (effects.printed w o)) ≡ Err e → legal e ≡ true
-  by true h = let z : _≡_ {A = ℕ} 0 1 = cc in absurd (omega arith)
-  by false h = let z : NoOutputSpace ≡ e = cc in rw (← z) refl
 
 -- the built-in print of one string: it answers 0, or ends as the print does
 print-answers : (w : List ℕ) (o p : Effects) → print w o ≡ Ok p → apply PrintValue (Val.string w ∷ []) o ≡ Ok (Val.int (pos 0), p)
@@ -136,11 +117,10 @@ module _ {A : Type 0} (P : Classes A) (L : Limits) (C : Program) (G : Table) (gl
   close-then cs {t = t} {R = R} s v g e h i w b =
       let y = split (send P t (codes "to_s") 0) (Last t) (tail g) in
       step-then (do-mov (head g) (omega arith) i)
-      (slack 299 (omega arith)
-      (bind-spent
+      (bind-with {c = 100} (omega arith)
       (send-then P L C G globals k again s v [] (codes "to_s") freeFrames 0 (λ f′ z. cs (classOf (s .heap) v) (codes "to_s") f′ z) refl refl
       (scratch P L (suc t) (shift P v) (omega arith) h) w tt (omega arith) (has-written R (suc t) (shift P v)) none (y .left))
-      (λ u s′ R′ φ. last-then s′ u (y .right) e (φ .got) (φ .fine) b)))
+      (λ u s′ R′ φ. last-then s′ u (y .right) e (φ .got) (φ .fine) b))
 
   -- its last instruction returns
   pub close-returns : {f p q q′ t : ℕ} → Seg C f p (closeCode P t) q → suc q′ ≡ q → Fetch C f q′ (Instr.ret t)

@@ -1,52 +1,47 @@
 -- Methods that classes define: the count test, marks, the body, the return. Assumes nothing.
-use mathlib.Core.Path.{_≡_, refl, sym, ap, subst, _∙_}
-use mathlib.Core.Logic.{_≢_, _⊎_, inl, inr, ⊎-elim}
+use mathlib.Core.Path.{_≡_, refl, _∙_}
+use mathlib.Core.Logic.{_⊎_, inl, inr, ⊎-elim}
 use mathlib.Core.Bool.{Bool, true, false, cond}
-use mathlib.Core.List.{List, [], _∷_, _++_, map}
+use mathlib.Core.List.{List, [], _∷_, map}
 use Prim.Native.Nat.{ℕ, zero, suc, _+_, _-_, _<_, _≤_}
 use native.Mathlib.Omega.{arith}
-use lib.Chars.{codes}
 use lib.Dec.{eqb}
-use lib.IntN.{pos}
-use lib.ListN.{length, getD}
+use lib.ListN.{length}
 use Rattle.std.specs.Finite.{nth}
 use Rattle.std.specs.shelf.Lists.{All}
-use Rattle.std.specs.shelf.Text.{sameBytes}
-use Rattle.std.proofs.shelf.Tests.{cases-lt, cases-eq, eqb-true, eqb-false, eq-eqb, ne-eqb}
-use Rattle.std.specs.declared.option.Option.{Option}
-use Rattle.std.specs.declared.option.Option.the-variants.{Some, None}
-use Rattle.store.specs.Val.{Val, equalVal}
-use Rattle.store.specs.Tables.{Table, look}
+use Rattle.std.proofs.shelf.Tests.{cases-lt}
+use Rattle.std.specs.declared.option.Option.the-variants.{Some}
+use Rattle.store.specs.Val.{Val}
+use Rattle.store.specs.Tables.{Table}
 use Rattle.machine.specs.declared.ending.Ending.the-variants.{WrongArgumentCount}
 use Rattle.machine.specs.Limits.{Limits, registersPerFrame}
 use Rattle.machine.specs.Instr.{Instr, Program}
-use Rattle.machine.specs.Operands.{truth}
 use Rattle.machine.specs.State.{Registers, Frame, frame, at, read, write, passed}
-use Rattle.machine.proofs.Judge.{Has, Hold, none, more, Fetch}
+use Rattle.machine.proofs.Judge.{Has, Fetch}
 use Rattle.machine.proofs.Registers.{passed-reads, read-other}
-use Rattle.machine.proofs.Exec.{do-const, do-eq, do-jmp, do-ifZero, do-ifOther, do-ret, end-halt, forward}
+use Rattle.machine.proofs.Exec.{do-const, do-ret}
 use Rattle.grammar.specs.Tree.{Expr, Method}
-use Rattle.rube.specs.Classes.{Callee, Classes, lookup, parameterCount}
-use Rattle.rube.specs.Heap.{Heap, Setting, classOf}
+use Rattle.rube.specs.Classes.{Callee, Classes}
+use Rattle.rube.specs.Heap.{Heap, Setting}
 use Rattle.rube.specs.Heap as heap
-use Rattle.rube.specs.Evaluation.{State, Res, val, end, unless, withLocals}
+use Rattle.rube.specs.Evaluation.{State, Res, unless, withLocals}
 use Rattle.rube.specs.Evaluation as evaluation
 use Rattle.rube.specs.Meaning.{Eval, bind as bound, enter}
-use Rattle.compiler.specs.Layout.{mark, slots, free, functionOf}
-use Rattle.compiler.specs.Pieces.{Code, number, countTest, marks}
-use Rattle.compiler.specs.Body.{compile, bodyCode, methodCode}
+use Rattle.compiler.specs.Layout.{mark, slots, free}
+use Rattle.compiler.specs.Pieces.{number, countTest, marks}
+use Rattle.compiler.specs.Body.{bodyCode, methodCode}
 use Rattle.correctness.specs.Fitting.{Fit}
-use Rattle.correctness.proofs.Relation.{shift, world, Globals, Fine, object, Sound, Self, self, Proper, Stand, Grows, Keep}
-use Rattle.correctness.proofs.Segments.{Seg, Split, split, seg-end, head, tail, last}
-use Rattle.correctness.proofs.Following.{Sim, bind, count-then, step-then, slack, done, ending}
-use Rattle.correctness.proofs.Registers.{has-written, has-other, keep-same}
+use Rattle.correctness.proofs.Relation.{shift, world, Globals, Fine, Sound, Self}
+use Rattle.correctness.proofs.Lookup.{nth-below}
+use Rattle.correctness.proofs.Segments.{Seg, split, head, tail, last}
+use Rattle.correctness.proofs.Following.{Sim, bind, count-then, step-then, slack, done}
+use Rattle.correctness.proofs.Registers.{has-written, keep-same}
 use Rattle.std.proofs.shelf.Lists.{length-append}
 use Rattle.correctness.proofs.Slots.{enters, slots-begin}
 use Rattle.correctness.proofs.Tests.{count-test}
 use Rattle.correctness.proofs.Forms.{fit-below}
-use Rattle.correctness.proofs.Returning.{Except, has-except, grows-same, Back}
-use Rattle.correctness.proofs.Judged.{Pre, Post, Good}
-use Rattle.correctness.proofs.Classed.{one, two, except-two}
+use Rattle.correctness.proofs.Returning.{has-except, grows-same, Back}
+use Rattle.correctness.proofs.Judged.{Good}
 use Rattle.correctness.proofs.Calls.{block}
 
 module _ {A : Type 0} (P : Classes A) (L : Limits) (C : Program) (G : Table) where
@@ -83,11 +78,6 @@ module _ {A : Type 0} (P : Classes A) (L : Limits) (C : Program) (G : Table) whe
 
   two-more : (j : ℕ) → 2 + j ≡ suc (suc j)
   two-more j = omega arith
-
-  nth-below : (vs : List Val) (j : ℕ) (v : Val) → nth vs j ≡ Some v → j < length vs
-  nth-below [] j v e = let z : _≡_ {A = ℕ} 0 1 = cc in absurd (omega arith)
-  nth-below (u ∷ vs) zero v e = omega arith
-  nth-below (u ∷ vs) (suc j) v e = let h = nth-below vs j v e in omega arith
 
   module _ (globals : Globals P G) (k : ℕ) (again : Eval A) where
     abbrev setting : Setting A

@@ -1,9 +1,8 @@
 -- Objects made, and their initialize. Assumes nothing.
 use mathlib.Core.Path.{_≡_, refl, sym, ap, subst, _∙_}
-use mathlib.Core.Logic.{_≢_}
 use mathlib.Core.Bool.{Bool, true, false, cond, not}
 use mathlib.Core.List.{List, [], _∷_, _++_, map}
-use Prim.Native.Nat.{ℕ, zero, suc, _+_, _<_, _≤_}
+use Prim.Native.Nat.{ℕ, suc, _+_, _<_, _≤_}
 use native.Mathlib.Omega.{arith}
 use lib.Chars.{codes}
 use lib.Dec.{eqb}
@@ -16,13 +15,12 @@ use Rattle.std.proofs.shelf.Lists.{length-map, getD-at}
 use Rattle.std.specs.declared.option.Option.{Option}
 use Rattle.std.specs.declared.option.Option.the-variants.{Some, None}
 use Rattle.store.specs.Val.{Val}
-use Rattle.store.specs.Tables.{Table, Tables, takes}
-use Rattle.store.specs.Tables as store
+use Rattle.store.specs.Tables.{Table}
 use Rattle.machine.specs.declared.ending.Ending.the-variants.{NoTableSpace, WrongArgumentCount, NoSuchClass, CannotInstantiateBot}
 use Rattle.machine.specs.Limits.{Limits, registersPerFrame}
 use Rattle.machine.specs.Instr.{Instr, Program}
-use Rattle.machine.specs.State.{Registers, Frame, at, read, write}
-use Rattle.machine.proofs.Judge.{Has, Hold, none, more, Fetch}
+use Rattle.machine.specs.State.{Registers, Frame, at, write}
+use Rattle.machine.proofs.Judge.{Has, Hold, none, more}
 use Rattle.machine.proofs.Exec.{do-const, do-mov, do-rdGlob, do-mkTab, end-mkTab, do-wrTab, end-wrTab, end-halt}
 use Rattle.grammar.specs.Tree.{Expr, Args}
 use Rattle.grammar.specs.Measure.{count}
@@ -33,24 +31,23 @@ use Rattle.rube.specs.Evaluation.{State, Res, val, end, unless, withHeap, _>>=_
 use Rattle.rube.specs.Evaluation as evaluation
 use Rattle.rube.specs.Meaning.{Eval, cellsOf, framed, initialized, eval, evals}
 use Rattle.rube.specs.Meaning as meaning
-use Rattle.compiler.specs.Layout.{classKey, contentsKey, placeIn, free, classGlobal, functionOf}
+use Rattle.compiler.specs.Layout.{classKey, contentsKey, placeIn, classGlobal, functionOf}
 use Rattle.compiler.specs.Pieces.{number, haltWith}
 use Rattle.compiler.specs.Body as code
 use Rattle.compiler.specs.Body.{compile, compiles, create, initialize}
-use Rattle.correctness.specs.Fitting.{Fit, Fits}
-use Rattle.correctness.proofs.Relation.{shift, tablesOf, world, Globals, Fine, integer, text, object, Sound, Proper, Grows}
-use Rattle.correctness.proofs.Segments.{Seg, Split, split, seg-end, head, tail, last}
-use Rattle.correctness.proofs.Segments as seg
-use Rattle.correctness.proofs.Following.{Sim, bind, finish, bind-with, finish-with, count-then, step-then, slack, done, ending}
+use Rattle.correctness.specs.Fitting.{Fits}
+use Rattle.correctness.proofs.Relation.{shift, tablesOf, world, Globals, Fine, integer, text, object, Grows}
+use Rattle.correctness.proofs.Segments.{Seg, split, head, tail, last}
+use Rattle.correctness.proofs.Following.{Sim, bind, bind-with, finish-with, count-then, step-then, done, ending}
 use Rattle.correctness.proofs.Registers.{has-written, has-other, hold-other, hold-below, keep-same, keep-then}
-use Rattle.correctness.proofs.Returning.{fine-grows, grows-then, grows-same, Back, back-post}
-use Rattle.correctness.proofs.Judged.{Pre, Post, Posts, Goods, first, next, answer, scratch}
+use Rattle.correctness.proofs.Returning.{fine-grows, grows-then, grows-same, back-post}
+use Rattle.correctness.proofs.Judged.{Pre, Post, first, next, answer, scratch}
 use Rattle.correctness.proofs.Tabled.{make-object, make-map, length-tables, length-made, cells-object, new-table-here, old-table-here}
 use Rattle.correctness.proofs.Heaps.{grows-more, sound-make, made-fine}
 use Rattle.correctness.proofs.Space.{fits-after-make, Makes, bothFit, noTable, noPair, MakesMap, firstFails, firstFits, makes-object, makes-map}
 use Rattle.correctness.proofs.Classed.{two}
 use Rattle.correctness.proofs.Forms.{setting, Ok}
-use Rattle.correctness.proofs.Calls.{Oks, Callable, Callables, block, framed-back}
+use Rattle.correctness.proofs.Calls.{Oks, Callable, Callables, framed-back}
 use Rattle.correctness.proofs.Objects.{grown-proper}
 
 module _ {A : Type 0} (P : Classes A) (L : Limits) (C : Program) (G : Table) (globals : Globals P G) where
