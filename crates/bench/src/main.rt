@@ -1,4 +1,6 @@
 // How fast the stores and the machine are. Run by hand: without a word it measures nothing.
+#![tactic(auto)]
+
 use anyhow::anyhow;
 use std::env;
 

@@ -1,4 +1,6 @@
 // The bucket store: a search looks only at the pairs whose keys have the same number.
+#![tactic(auto)]
+
 ghost use Rattle.std.specs.Prelude.{◌≡◌, ℕ, ◌<◌, ◌≤◌, min, [], length, take, IfSome, if◌then◌else◌, None, Decides, nat_eq};
 ghost use Rattle.text.specs.Memory.{Memory, memory_of};
 ghost use Rattle.text.specs.First.{first_place};

@@ -1,4 +1,6 @@
 // Calls: the machine's own functions, and frames for all others.
+#![tactic(auto)]
+
 pub mod beginning;
 pub mod builtins;
 pub mod calling;

@@ -1,4 +1,6 @@
 // The grammar of rules and classes, and its law.
+#![tactic(auto)]
+
 ghost use Rattle.grammar.specs.Grammar.{Kind};
 ghost use Rattle.grammar.specs.Law.{Law};
 ghost use Rattle.grammar.specs.Notes.{NotesLaw};

@@ -1,4 +1,6 @@
 // Bytes to tokens that borrow from the text.
+#![tactic(auto)]
+
 ghost use Rattle.std.specs.Prelude.{◌≡◌, ℕ, ◌+◌, ◌<◌, ◌≤◌, length, drop, is_some, Some, slice_index, slice_index_or};
 ghost use Rattle.lexer.specs.Byte.{digit, goes_on};
 ghost use Rattle.std.specs.Str.{bytes_eq};

@@ -1,4 +1,6 @@
 // Texts beside their tokens: a line for each text with its tokens, or the place where it is refused.
+#![tactic(auto)]
+
 use lexer::token::Lexed;
 use lexer::{check_text, next_token};
 

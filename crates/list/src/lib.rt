@@ -1,4 +1,6 @@
 // The list store: all pairs in the order in which their keys came, searched from the start.
+#![tactic(auto)]
+
 ghost use Rattle.std.specs.Prelude.{◌≡◌, ℕ, ◌<◌, ◌≤◌, min, [], length, take, IfSome};
 ghost use Rattle.text.specs.Memory.{Memory, memory_of};
 ghost use Rattle.text.specs.First.{first_place};

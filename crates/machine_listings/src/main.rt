@@ -1,4 +1,6 @@
 // Each listing over the list store and over the buckets: how it ended, in how many steps, and what it printed.
+#![tactic(auto)]
+
 use crate::listings::{FIXED, LISTINGS, Listing};
 use buckets::{BucketStore, UNLINKED, UNUSED};
 use calls::frame::{Calls, Frame};

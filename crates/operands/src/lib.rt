@@ -1,4 +1,6 @@
 // What instructions read: registers, globals and tables.
+#![tactic(auto)]
+
 pub mod answer;
 pub mod globals;
 pub mod registers;

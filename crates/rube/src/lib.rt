@@ -1,4 +1,6 @@
 // The language Rube: its built-in methods, its classes and what a rule means.
+#![tactic(auto)]
+
 ghost use Rattle.rube.specs.Clock.{ClockLaw};
 ghost use Rattle.rube.specs.Samples.{SamplesHold};
 

@@ -1,4 +1,6 @@
 // A bounded stack over a lent slice: its items stand at the slice's front, the oldest first.
+#![tactic(auto)]
+
 ghost use Rattle.std.specs.Prelude.{◌≤◌, length};
 
 pub mod operations;

@@ -1,4 +1,6 @@
 // Values, and stores of tables that map values to values.
+#![tactic(auto)]
+
 ghost use Rattle.std.specs.Prelude.{◌≡◌, ℕ, ◌≤◌, [], length, Ok, Err};
 ghost use Rattle.text.specs.Memory.{Memory, memory_of};
 ghost use Rattle.text.specs.Agree.{Grown};

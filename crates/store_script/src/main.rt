@@ -1,4 +1,6 @@
 // One script over both stores: every ask with the answer of the list and of the buckets, then how often random answers agree.
+#![tactic(auto)]
+
 use crate::ask::{Answer, agree, reply};
 use crate::random::Random;
 use crate::script::{AB, AB_MADE, FIXED, MADE, SCRIPT, TEXTS};

@@ -1,4 +1,6 @@
 // From a text to the one tree that it has, standing in a lent node table, or the refusal of it.
+#![tactic(auto)]
+
 pub mod class;
 pub mod expression;
 pub mod leaves;

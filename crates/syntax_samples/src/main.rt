@@ -1,4 +1,6 @@
 // Texts beside their answers: a line for each text with its nodes, or the refusal.
+#![tactic(auto)]
+
 use nodes::node::{Form, Method, Node, Parameters};
 use nodes::refusal::Refusal;
 use syntax::class::parse_class;

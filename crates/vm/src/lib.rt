@@ -1,3 +1,5 @@
 // The machine at work in lent memory, step by step.
+#![tactic(auto)]
+
 pub mod dispatch;
 pub mod run;

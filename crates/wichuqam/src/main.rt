@@ -1,4 +1,6 @@
 // The first word says what to do; each task reads standard input and prints its answer.
+#![tactic(auto)]
+
 use anyhow::anyhow;
 use std::env;
 

@@ -7,5 +7,5 @@ use Rattle.lexer.proofs.integer_at.Goals as goal
 
 pub returns : goal.returns
 returns c =
-    let bytes = cut (goes_on Digits) c.args.text.now c.args.from c.run-end-to.result c.run-end-to.ensures.longest c.requires in
-    record { all_digits = placed-as _ _ c.args.from c.run-end-to.result (ap integer bytes) (omega arith) }
+    let bytes = cut (goes_on Digits) c.args.text.now c.args.from c.run_end-to.result c.run_end-to.ensures.longest c.requires in
+    record { all_digits = placed-as _ _ c.args.from c.run_end-to.result (ap integer bytes) (omega arith) }

@@ -5,12 +5,12 @@ use Rattle.lexer.proofs.run_end.Goals as goal
 
 pub loop-end-preserved : goal.loop-end-preserved
 loop-end-preserved c =
-    let h = passes_at (goes_on c.args.run) c.args.text.now c.loop-end.end (omega arith) c.if-goes-on.ensures.the-run in
+    let h = passes_at (goes_on c.args.run) c.args.text.now c.loop-end.end (omega arith) c.if-goes_on.ensures.the_run in
     (omega arith, omega arith)
 
-pub returns-else-goes-on : goal.returns-else-goes-on
-returns-else-goes-on c =
-    let h = stops_at (goes_on c.args.run) c.args.text.now c.loop-end.end (omega arith) c.if-goes-on.ensures.the-run in
+pub returns-else-goes_on : goal.returns-else-goes_on
+returns-else-goes_on c =
+    let h = stops_at (goes_on c.args.run) c.args.text.now c.loop-end.end (omega arith) c.if-goes_on.ensures.the_run in
     record { longest = omega arith; within = omega arith }
 
 pub returns-after-loop-end : goal.returns-after-loop-end

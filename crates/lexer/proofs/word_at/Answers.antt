@@ -11,9 +11,9 @@ pub returns : goal.returns
 returns c =
     let text = c.args.text.now in
     let w = get_or text c.args.from 0 ∷ front (goes_on Identifier) (drop (c.args.from + 1) text) in
-    let bytes = cut (goes_on Identifier) text c.args.from c.run-end-to.result c.run-end-to.ensures.longest c.requires in
+    let bytes = cut (goes_on Identifier) text c.args.from c.run_end-to.result c.run_end-to.ensures.longest c.requires in
     let long = length-worded w in
     record {
-      longest-word = placed-as _ _ c.args.from c.run-end-to.result
-          (c.word-token.ensures.no-keyword-is-an-identifier ∙ ap (λ v. worded v (keyword_of v)) bytes) (omega arith);
+      longest_word = placed-as _ _ c.args.from c.run_end-to.result
+          (c.word_token.ensures.no_keyword_is_an_identifier ∙ ap (λ v. worded v (keyword_of v)) bytes) (omega arith);
     }
