@@ -16,6 +16,6 @@ returns c =
     let m = memory_of c.args.bytes in
     let p = place_of m c.args.key.now in
     record {
-      first = first_place-from-first (λ (k : Key). place_of m k ≡ p) (λ (k : Key). same_place (place_of m k) p) (λ k. decides-place (place_of m k) p) _ _ c.first-equal.ensures.first;
-      within = bound c.first-equal.result c.first-equal.ensures.within (length-take-le c.args.len c.args.keys.now c.requires);
+      first = first_place-from-first (λ (k : Key). place_of m k ≡ p) (λ (k : Key). same_place (place_of m k) p) (λ k. decides-place (place_of m k) p) _ _ c.first_equal.ensures.first;
+      within = bound c.first_equal.result c.first_equal.ensures.within (length-take-le c.args.len c.args.keys.now c.requires);
     }

@@ -13,12 +13,12 @@ use Rattle.buckets.proofs.Storing.{led, holds-lead, first-lead, holds-push, insi
 use Rattle.buckets.proofs.BucketStore.append.Goals as goal
 
 -- the last of the chain leads to the end
-pub invariant-of-self : goal.invariant-of-self
-invariant-of-self c =
+pub invariant_of-self : goal.invariant_of-self
+invariant_of-self c =
     let s = c.args.self.now in
     let es = s.entries.now in
     let cs = s.chains.now in
-    let b = c.bucket-of-bucket.result in
+    let b = c.bucket_of-bucket.result in
     let t = last_at cs b in
     let r = led (get_or es t unused) s.len in (
       long-set s.room es t r s.entered,
@@ -38,12 +38,12 @@ invariant-of-self c =
     )
 
 -- the new entry stands there, and does not count yet
-pub invariant-of-self-then-begun : goal.invariant-of-self-then-begun
-invariant-of-self-then-begun c =
+pub invariant_of-self-then-begun : goal.invariant_of-self-then-begun
+invariant_of-self-then-begun c =
     let s = c.args.self.now in
     let es = s.entries.now in
     let cs = s.chains.now in
-    let b = c.bucket-of-bucket.result in
+    let b = c.bucket_of-bucket.result in
     let t = last_at cs b in
     let r = led (get_or es t unused) s.len in
     let e : Chained = record { key = c.args.key; value = c.args.value; bucket = b; next = s.len } in (
@@ -64,12 +64,12 @@ invariant-of-self-then-begun c =
     )
 
 -- it is the last of its chain
-pub invariant-of-self-then-begun-2 : goal.invariant-of-self-then-begun-2
-invariant-of-self-then-begun-2 c =
+pub invariant_of-self-then-begun-2 : goal.invariant_of-self-then-begun-2
+invariant_of-self-then-begun-2 c =
     let s = c.args.self.now in
     let es = s.entries.now in
     let cs = s.chains.now in
-    let b = c.bucket-of-bucket.result in
+    let b = c.bucket_of-bucket.result in
     let t = last_at cs b in
     let r = led (get_or es t unused) s.len in
     let e : Chained = record { key = c.args.key; value = c.args.value; bucket = b; next = s.len } in
@@ -83,18 +83,18 @@ invariant-of-self-then-begun-2 c =
             s.limits,
             (
               λ h. long-set 1 cs b _ (s.numbered h),
-              linked-append es cs s.len b (links s) (fit s) (c.begun.ensures.0 c.if-begun.true) r e refl refl (omega (arith, s.entered)) c.bucket-of-bucket.ensures.below refl,
+              linked-append es cs s.len b (links s) (fit s) (c.begun.ensures.0 c.if-begun.true) r e refl refl (omega (arith, s.entered)) c.bucket_of-bucket.ensures.below refl,
             ),
           ),
         ),
       ),
     )
 
-pub invariant-of-self-else-begun : goal.invariant-of-self-else-begun
-invariant-of-self-else-begun c =
+pub invariant_of-self-else-begun : goal.invariant_of-self-else-begun
+invariant_of-self-else-begun c =
     let s = c.args.self.now in
     let es = s.entries.now in
-    let e : Chained = record { key = c.args.key; value = c.args.value; bucket = c.bucket-of-bucket.result; next = s.len } in (
+    let e : Chained = record { key = c.args.key; value = c.args.value; bucket = c.bucket_of-bucket.result; next = s.len } in (
       long-set s.room es s.len e s.entered,
       (
         s.filled,
@@ -112,12 +112,12 @@ invariant-of-self-else-begun c =
     )
 
 -- or its first and last
-pub invariant-of-self-else-begun-2 : goal.invariant-of-self-else-begun-2
-invariant-of-self-else-begun-2 c =
+pub invariant_of-self-else-begun-2 : goal.invariant_of-self-else-begun-2
+invariant_of-self-else-begun-2 c =
     let s = c.args.self.now in
     let es = s.entries.now in
     let cs = s.chains.now in
-    let b = c.bucket-of-bucket.result in
+    let b = c.bucket_of-bucket.result in
     let e : Chained = record { key = c.args.key; value = c.args.value; bucket = b; next = s.len } in
     let room : s.len < s.room = c.requires in (
       long-set s.room es s.len e s.entered,
@@ -129,7 +129,7 @@ invariant-of-self-else-begun-2 c =
             s.limits,
             (
               λ h. long-set 1 cs b _ (s.numbered h),
-              linked-begin es cs s.len (links s) b e (omega (arith, s.entered)) c.bucket-of-bucket.ensures.below refl (not_from_Decides _ c.begun.ensures c.if-begun.false),
+              linked-begin es cs s.len (links s) b e (omega (arith, s.entered)) c.bucket_of-bucket.ensures.below refl (not_from_Decides _ c.begun.ensures c.if-begun.false),
             ),
           ),
         ),
@@ -144,7 +144,7 @@ returns-then-begun c =
     let many = length cs in
     let m = memory_of c.args.bytes in
     let k = c.args.key in
-    let b = c.bucket-of-bucket.result in
+    let b = c.bucket_of-bucket.result in
     let t = last_at cs b in
     let es' = set es t (led (get_or es t unused) s.len) in
     let e : Chained = record { key = k; value = c.args.value; bucket = b; next = s.len } in
@@ -155,7 +155,7 @@ returns-then-begun c =
       holds = λ T h first there.
           subst (λ (n : ℕ). Holds (set es' s.len e) n (s.len + 1) s.count m (write T k.location.0 (meaning m k.value) (meaning m c.args.value))) (sym (length-set cs b _))
           (holds-push es' s.len fit' many s.count m T (holds-lead es s.len (fit s) many s.count m T h t s.len low) e
-          (first ∙ first-lead es s.len (fit s) many s.count m T h t s.len (place_of m k) low) lt there c.bucket-of-bucket.ensures.value);
+          (first ∙ first-lead es s.len (fit s) many s.count m T h t s.len (place_of m k) low) lt there c.bucket_of-bucket.ensures.value);
       within = λ u w p q. inside-push es' s.len fit' u e lt (inside-lead es s.len (fit s) u t s.len low w) p q;
       tables = refl;
       room = refl;
@@ -168,13 +168,13 @@ returns-else-begun c =
     let cs = s.chains.now in
     let m = memory_of c.args.bytes in
     let k = c.args.key in
-    let b = c.bucket-of-bucket.result in
+    let b = c.bucket_of-bucket.result in
     let e : Chained = record { key = k; value = c.args.value; bucket = b; next = s.len } in
     let lt : s.len < length es = omega (arith, s.entered, c.requires) in
     record {
       holds = λ T h first there.
           subst (λ (n : ℕ). Holds (set es s.len e) n (s.len + 1) s.count m (write T k.location.0 (meaning m k.value) (meaning m c.args.value))) (sym (length-set cs b _))
-          (holds-push es s.len (fit s) (length cs) s.count m T h e first lt there c.bucket-of-bucket.ensures.value);
+          (holds-push es s.len (fit s) (length cs) s.count m T h e first lt there c.bucket_of-bucket.ensures.value);
       within = λ u w p q. inside-push es s.len (fit s) u e lt w p q;
       tables = refl;
       room = refl;

@@ -22,6 +22,6 @@ returns c =
     let s = c.args.self.now in
     let m = memory_of c.args.bytes in
     record {
-      first = λ placed. first-of-all (length s.chains.now) m (place_of m c.args.key) c.bucket-of-bucket.result c.bucket-of-bucket.ensures.value (take s.len s.entries.now) placed c.walk.result c.walk.ensures.first;
+      first = λ placed. first-of-all (length s.chains.now) m (place_of m c.args.key) c.bucket_of-bucket.result c.bucket_of-bucket.ensures.value (take s.len s.entries.now) placed c.walk.result c.walk.ensures.first;
       within = c.walk.ensures.within;
     }

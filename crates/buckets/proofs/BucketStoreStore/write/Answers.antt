@@ -9,8 +9,8 @@ use Rattle.buckets.proofs.Storing.{valued, holds-pairs, holds-made, holds-unmade
 use Rattle.buckets.proofs.BucketStoreStore.write.Goals as goal
 
 -- a value replaced
-pub invariant-of-self : goal.invariant-of-self
-invariant-of-self c =
+pub invariant_of-self : goal.invariant_of-self
+invariant_of-self c =
     let s = c.args.self.now in
     let es = s.entries.now in
     let i = c.in-Some.i in

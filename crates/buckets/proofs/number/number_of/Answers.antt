@@ -19,7 +19,7 @@ returns-in-Str c =
     let s = c.in-Str.s in
     record {
       value =
-          number-string (bytes_of m s) s.len _ _ _ _ (length-bytes_of m s) c.byte-of-first.ensures c.byte-of-middle.ensures c.byte-of-last.ensures c.saturating-sub.ensures
+          number-string (bytes_of m s) s.len _ _ _ _ (length-bytes_of m s) c.byte_of-first.ensures c.byte_of-middle.ensures c.byte_of-last.ensures c.saturating_sub.ensures
           ∙ ap (λ (k : Value). number_of (meaning m k)) (sym c.in-Str.is);
       small = omega arith;
     }

@@ -5,8 +5,8 @@ use Rattle.effects.proofs.decimal.write_decimal.Goals as goal
 
 pub returns-then-n-lt0 : goal.returns-then-n-lt0
 returns-then-n-lt0 c =
-    let w = c.write-digits-at in
+    let w = c.write_digits-at in
     record {
-      digits = sign-placed c.args.n w.result w.new.buffer c.if-n-lt0.true c.ranges.n w.ensures.within.0 w.ensures.within.1 (w.auto.buffer ∙ c.requires) (w.ensures.digits ∙ ap decimal c.unsigned-abs.ensures.value ∙ ap (λ z. decimal (nat_abs z)) (to_z-of_z w32 c.args.n c.ranges.n));
+      digits = sign-placed c.args.n w.result w.new.buffer c.if-n-lt0.true c.ranges.n w.ensures.within.0 w.ensures.within.1 (w.auto.buffer ∙ c.requires) (w.ensures.digits ∙ ap decimal c.unsigned_abs.ensures.value ∙ ap (λ z. decimal (nat_abs z)) (to_z-of_z w32 c.args.n c.ranges.n));
       within = omega arith;
     }

@@ -5,8 +5,8 @@ use Rattle.effects.proofs.decimal.write_digits.Goals as goal
 pub loop-rest-init : goal.loop-rest-init
 loop-rest-init c = (all_left c.args.n c.args.buffer.now c.requires, omega arith, omega arith)
 
-pub overflow-sub-at : goal.overflow-sub-at
-overflow-sub-at c =
+pub overflow_sub-at : goal.overflow_sub-at
+overflow_sub-at c =
     let l = c.loop-rest in
     let p = place-left c.args.n l.rest l.at l.buffer l.invariant.0 l.invariant.1 l.invariant.2 (omega arith) (l.auto.buffer ∙ c.requires) in
     omega arith
@@ -20,8 +20,8 @@ loop-rest-preserved c =
       omega arith,
     )
 
-pub overflow-sub-at-2 : goal.overflow-sub-at-2
-overflow-sub-at-2 c =
+pub overflow_sub-at-2 : goal.overflow_sub-at-2
+overflow_sub-at-2 c =
     let l = c.loop-rest in
     let p = place-left c.args.n l.rest l.at l.buffer l.invariant.0 l.invariant.1 l.invariant.2 (omega arith) (l.auto.buffer ∙ c.requires) in
     omega arith

@@ -4,11 +4,11 @@ use Rattle.effects.proofs.Laying.{laid-at-once}
 use Rattle.effects.proofs.Spends.{charge-fits, charge-full}
 use Rattle.effects.proofs.made.append.Goals as goal
 
-pub returns-then-not-has-room : goal.returns-then-not-has-room
-returns-then-not-has-room c =
+pub returns-then-not-has_room : goal.returns-then-not-has_room
+returns-then-not-has_room c =
     let p = c.args.spent.now in
     record {
-      made = λ h. ((λ out. charge-full (length c.args.text.now) p out (sym (c.if-not-has-room.ensures.limits h))), refl, refl);
+      made = λ h. ((λ out. charge-full (length c.args.text.now) p out (sym (c.if-not-has_room.ensures.limits h))), refl, refl);
       printed = refl;
     }
 
@@ -21,9 +21,9 @@ returns c =
     let mid = p.bytes + length s - p.bytes in
     record {
       made = λ h. (
-        (λ out. charge-fits (length s) p out c.charged.result (sym (c.if-not-has-room.ensures.limits h)) q.0 q.1 q.2),
+        (λ out. charge-fits (length s) p out c.charged.result (sym (c.if-not-has_room.ensures.limits h)) q.0 q.1 q.2),
         refl,
-        ap (put_mid p.bytes mid xs) c.copy-from-slice.ensures.after ∙ laid-at-once xs s p.bytes mid (omega arith),
+        ap (put_mid p.bytes mid xs) c.copy_from_slice.ensures.after ∙ laid-at-once xs s p.bytes mid (omega arith),
       );
       printed = q.2;
     }

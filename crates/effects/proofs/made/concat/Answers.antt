@@ -14,14 +14,14 @@ both : (m : Memory) (a b : Span) → length (bytes_of m a ++ bytes_of m b) ≡ a
 both m a b =
     length-append (bytes_of m a) (bytes_of m b) ∙ (λ i. length-bytes_of m a i + length-bytes_of m b i)
 
-pub returns-then-not-has-room : goal.returns-then-not-has-room
-returns-then-not-has-room c =
+pub returns-then-not-has_room : goal.returns-then-not-has_room
+returns-then-not-has_room c =
     let a = c.args in
     let p = a.spent.now in
     let m : Memory = record { fixed = a.fixed.now; texts = a.texts.now; made = a.made.now } in
     record {
       made = λ h ha hb.
-          let full = sym (c.if-not-has-room.ensures.limits h) in
+          let full = sym (c.if-not-has_room.ensures.limits h) in
           ((λ out. charge-full _ p out (ap (λ n. ltb p.strings most_strings && leb (p.bytes + n) most_string_bytes) (both m a.a a.b) ∙ full)), refl, refl);
       printed = refl;
     }
@@ -35,10 +35,10 @@ returns c =
     let n = both m a.a a.b in
     record {
       made = λ h ha hb.
-          let fits = sym (c.if-not-has-room.ensures.limits h) in (
+          let fits = sym (c.if-not-has_room.ensures.limits h) in (
             (λ out. charge-fits _ p out c.charged.result (ap (λ n. ltb p.strings most_strings && leb (p.bytes + n) most_string_bytes) n ∙ fits) q.0 (q.1 ∙ ap (λ n. p.bytes + n) (sym n)) q.2),
             ap (behind p) (sym n),
-            both-laid m a.a a.b p.bytes c.copy-string.new.made c.copy-string-2.new.made (omega (arith, c.if-not-has-room.ensures.fits tt)) hb (c.copy-string.ensures ha) (c.copy-string-2.ensures (omega arith)),
+            both-laid m a.a a.b p.bytes c.copy_string.new.made c.copy_string-2.new.made (omega (arith, c.if-not-has_room.ensures.fits tt)) hb (c.copy_string.ensures ha) (c.copy_string-2.ensures (omega arith)),
           );
       printed = q.2;
     }

@@ -26,8 +26,8 @@ loop-i-preserved c =
     let same : byte_of after t.space (t.start + i) ≡ get_or s i 0 =
     sym (get_or-bytes_of after t i 0 l) ∙ ap (λ (z : List ℕ). get_or z i 0) (sym (bytes_of-grown at m after t g h)) in
     let here = c.loop-i.invariant h in
-    let b = c.byte-at.ensures ∙ ap (λ (z : List ℕ). byte_of (record { fixed = a.fixed.now; texts = a.texts.now; made = z }) t.space (t.start + i)) here ∙ same in
-    ap (λ (z : List ℕ). set z (at + i) c.byte-at.result) here ∙ laid_more xs s at i c.byte-at.result (omega arith) (omega (arith, c.requires)) b
+    let b = c.byte_at.ensures ∙ ap (λ (z : List ℕ). byte_of (record { fixed = a.fixed.now; texts = a.texts.now; made = z }) t.space (t.start + i)) here ∙ same in
+    ap (λ (z : List ℕ). set z (at + i) c.byte_at.result) here ∙ laid_more xs s at i c.byte_at.result (omega arith) (omega (arith, c.requires)) b
 
 pub returns : goal.returns
 returns c =

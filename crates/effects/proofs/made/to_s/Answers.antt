@@ -5,7 +5,7 @@ use Rattle.effects.proofs.made.to_s.Goals as goal
 
 pub returns : goal.returns
 returns c =
-    let w = c.write-decimal-at in
+    let w = c.write_decimal-at in
     let t = c.append in
     record {
       made = λ h.

@@ -5,8 +5,8 @@ use Rattle.effects.proofs.output.print_integer.Goals as goal
 
 pub returns : goal.returns
 returns c =
-    let w = c.write-decimal-at in
-    let t = c.print-text in
+    let w = c.write_decimal-at in
+    let t = c.print_text in
     record {
       printed = λ h.
           subst (λ (s : List ℕ). Prints s c.args.spent.now c.args.out.now t.result t.new.spent t.new.out)

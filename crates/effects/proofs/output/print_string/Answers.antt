@@ -27,9 +27,9 @@ loop-i-preserved c =
     let i = c.loop-i.i in
     let n = length-bytes_of m t in
     let f = leb-true _ _ (sym c.if-not-fits.ensures) in
-    let b = c.byte-at.ensures ∙ sym (get_or-bytes_of m t i 0 c.loop-i-test.true) in
-    ap (λ (z : List ℕ). set z (at + i) c.byte-at.result) c.loop-i.invariant
-    ∙ laid_more c.args.out.now s at i c.byte-at.result (omega arith) (omega arith) b
+    let b = c.byte_at.ensures ∙ sym (get_or-bytes_of m t i 0 c.loop-i-test.true) in
+    ap (λ (z : List ℕ). set z (at + i) c.byte_at.result) c.loop-i.invariant
+    ∙ laid_more c.args.out.now s at i c.byte_at.result (omega arith) (omega arith) b
 
 pub returns : goal.returns
 returns c =

@@ -18,8 +18,8 @@ returns c =
     let out = c.args.out.now in
     let s = c.args.text.now in
     let f : p.printed + length s ≤ length out = leb-true _ _ (sym c.if-not-fits.ensures) in
-    let after = put_mid p.printed (p.printed + length s - p.printed) out c.copy-from-slice.new.self in
-    let whole = ap (put_mid p.printed (p.printed + length s - p.printed) out) c.copy-from-slice.ensures.after ∙ laid-at-once out s p.printed (p.printed + length s - p.printed) (omega arith) in
+    let after = put_mid p.printed (p.printed + length s - p.printed) out c.copy_from_slice.new.self in
+    let whole = ap (put_mid p.printed (p.printed + length s - p.printed) out) c.copy_from_slice.ensures.after ∙ laid-at-once out s p.printed (p.printed + length s - p.printed) (omega arith) in
     record {
       printed = λ h. print-fits s p out record { strings = p.strings; bytes = p.bytes; printed = p.printed + length s } after f whole refl refl refl;
       within = λ h. omega (arith, f, ap length whole ∙ length-laid out s p.printed f);

@@ -3,4 +3,4 @@ use Rattle.machine.proofs.arith.divide.Goals as goal
 
 pub returns-else-b-eq0 : goal.returns-else-b-eq0
 returns-else-b-eq0 c =
-    record { towards-zero = divided c.args.a c.args.b c.wrapping-div.result c.ranges.a c.ranges.b c.if-b-eq0.false c.wrapping-div.ensures (record { sfits = c.wrapping-div.type-inv }) }
+    record { towards_zero = divided c.args.a c.args.b c.wrapping_div.result c.ranges.a c.ranges.b c.if-b-eq0.false c.wrapping_div.ensures (record { sfits = c.wrapping_div.type_inv }) }

@@ -112,8 +112,8 @@ returns-in-HasTab g c =
     let R = registers_of m c.args.registers.now in
     let G = globals_of m c.args.globals.now in
     record {
-      answered = λ T h. given-answers _ _ _ c.given-in-HasTab.ensures m c.args.i _ R T G _ c.in-HasTab.is refl (c.has-key.ensures.answered T h);
-      within = λ u hr hg hs hc. given-within _ _ _ c.given-in-HasTab.ensures u (c.has-key.ensures.within u);
+      answered = λ T h. given-answers _ _ _ c.given-in-HasTab.ensures m c.args.i _ R T G _ c.in-HasTab.is refl (c.has_key.ensures.answered T h);
+      within = λ u hr hg hs hc. given-within _ _ _ c.given-in-HasTab.ensures u (c.has_key.ensures.within u);
     }
 
 pub returns-in-RdGlob : goal.returns-in-RdGlob

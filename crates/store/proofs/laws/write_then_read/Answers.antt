@@ -7,7 +7,7 @@ use Rattle.store.proofs.laws.write_then_read.Goals as goal
 pub returns-in-Ok : goal.returns-in-Ok
 returns-in-Ok g c =
     let m = memory_of c.args.bytes in
-    let wrote = c.in-ok-write.ensures in
+    let wrote = c.in_ok-write.ensures in
     record {
       read = λ T h.
           let w = wrote.holds T h in

@@ -8,7 +8,7 @@ returns c = record {
   one_more = record {
     to_is = refl;
     many = refl;
-    named = c.learn-known.ensures.one-more-if-new;
-    names = elim c.if-at-lt-ARGUMENTS.branch [ then-at-lt-ARGUMENTS w ↦ w.spans-is ∙ ap (set c.args.listed.parameters.names c.args.listed.parameters.count) w.span.ensures.where-they-lie | else-at-lt-ARGUMENTS w ↦ w.spans-is ∙ sym (set_past _ _ _ (omega (arith, w.if-at-lt-ARGUMENTS.false))) ];
+    named = c.learn-known.ensures.one_more_if_new;
+    names = elim c.if-at-lt-ARGUMENTS.branch [ then-at-lt-ARGUMENTS w ↦ w.spans-is ∙ ap (set c.args.listed.parameters.names c.args.listed.parameters.count) w.span.ensures.where_they_lie | else-at-lt-ARGUMENTS w ↦ w.spans-is ∙ sym (set_past _ _ _ (omega (arith, w.if-at-lt-ARGUMENTS.false))) ];
   };
 }

@@ -6,20 +6,20 @@ use Rattle.syntax.proofs.class.members.Goals as goal
 pub loop-to-init : goal.loop-to-init
 loop-to-init c = (omega arith, omega arith, omega arith, omega arith, no-members)
 
-pub returns-in-err-defined : goal.returns-in-err-defined
-returns-in-err-defined c =
-    let p = err_from_is_err_and c.from-residual.result c.from-residual.ensures.1 in
-    rw (p.1, p.2) (record { moves = tt; reads = member-lost c.loop-to.invariant.4 (record { is = c.in-Some.ensures.found.1 }) c.in-err-defined.ensures.reads })
+pub returns-in_err-defined : goal.returns-in_err-defined
+returns-in_err-defined c =
+    let p = err_from_is_err_and c.from_residual.result c.from_residual.ensures.1 in
+    rw (p.1, p.2) (record { moves = tt; reads = member-lost c.loop-to.invariant.4 (record { is = c.in-Some.ensures.found.1 }) c.in_err-defined.ensures.reads })
 
 pub loop-to-preserved : goal.loop-to-preserved
 loop-to-preserved c =
     let i = c.in-Some.ensures.inside in
-    let m = c.in-ok-defined.ensures.moves in
+    let m = c.in_ok-defined.ensures.moves in
     let k = c.keep-all.ensures.kept in
     let v = c.loop-to.invariant in
-    (omega arith, omega arith, omega arith, omega arith, member-made v.4 (record { is = c.in-Some.ensures.found.1 }) c.in-ok-defined.ensures.reads k (omega arith) (omega arith))
+    (omega arith, omega arith, omega arith, omega arith, member-made v.4 (record { is = c.in-Some.ensures.found.1 }) c.in_ok-defined.ensures.reads k (omega arith) (omega arith))
 
 pub returns : goal.returns
 returns c =
     let v = c.loop-to.invariant in
-    record { moves = (omega arith, omega arith, omega arith); reads = (v.4, c.in-default.ensures.found) }
+    record { moves = (omega arith, omega arith, omega arith); reads = (v.4, c.in_default.ensures.found) }

@@ -14,5 +14,5 @@ returns c =
     record {
       moves = record { on = omega arith; inside = omega arith; few = omega arith; new = omega arith; root = omega arith };
       reads = leaf-made (Expr.field s.from w) (record { is = c.requires.begins }) (omega arith) (λ k. refl) (λ ns. refl) (λ u i. ap target_token (some_same i)) refl p refl (plain-sized (Expr.field s.from w) refl refl tt (omega arith) (omega arith)) (λ ns k. k)
-          (λ mem lies is. (_, is, word-seen c.args.base s.from s.to c.span-name.ensures.where-they-lie (omega arith) (omega arith) mem lies));
+          (λ mem lies is. (_, is, word-seen c.args.base s.from s.to c.span-name.ensures.where_they_lie (omega arith) (omega arith) mem lies));
     }

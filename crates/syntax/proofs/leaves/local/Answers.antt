@@ -13,6 +13,6 @@ returns c =
     let p = c.leaf.ensures.put in
     record {
       moves = record { on = omega arith; inside = omega arith; few = omega arith; new = omega arith; root = omega arith };
-      reads = leaf-made (Expr.local s.from w) (record { is = c.requires.begins }) (omega arith) (λ k. refl) (λ ns. refl) (λ u i. ap target_token (some_same i)) refl p refl (plain-sized (Expr.local s.from w) refl refl tt (omega arith) (omega arith)) c.learn-known.ensures.one-more-if-new.learns
-          (λ mem lies is. (_, is, word-seen c.args.base s.from s.to c.span-name.ensures.where-they-lie (omega arith) (omega arith) mem lies));
+      reads = leaf-made (Expr.local s.from w) (record { is = c.requires.begins }) (omega arith) (λ k. refl) (λ ns. refl) (λ u i. ap target_token (some_same i)) refl p refl (plain-sized (Expr.local s.from w) refl refl tt (omega arith) (omega arith)) c.learn-known.ensures.one_more_if_new.learns
+          (λ mem lies is. (_, is, word-seen c.args.base s.from s.to c.span-name.ensures.where_they_lie (omega arith) (omega arith) mem lies));
     }

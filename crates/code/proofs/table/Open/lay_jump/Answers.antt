@@ -9,7 +9,7 @@ returns-in-Ok c =
     record {
       refused = e.refused;
       laid = λ m P d l.
-          (c.here-at.ensures.length m _ P d l, refl, subst (λ i. Lays m c.lay.new.records c.lay.new.self P (d ++ i ∷ [])) (c.jump-of.ensures.as-asked m) (e.laid m P d l));
+          (c.here-at.ensures.length m _ P d l, refl, subst (λ i. Lays m c.lay.new.records c.lay.new.self P (d ++ i ∷ [])) (c.jump_of.ensures.as_asked m) (e.laid m P d l));
       elsewhere = e.elsewhere;
-      kept-where-refused = tt;
+      kept_where_refused = tt;
     }

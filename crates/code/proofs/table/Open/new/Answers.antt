@@ -7,5 +7,5 @@ pub returns : goal.returns
 unfolding code_at program_at
 returns c =
     record {
-      nothing-laid = λ m xs. record { finished = refl; current = refl; apart = tt; few = omega arith; all = refl; inside = omega arith; short = omega arith };
+      nothing_laid = λ m xs. record { finished = refl; current = refl; apart = tt; few = omega arith; all = refl; inside = omega arith; short = omega arith };
     }

@@ -4,4 +4,4 @@ use Rattle.code.proofs.table.Open.next_function.Goals as goal
 
 -- src/table/laying.rt:94:5
 pub returns : goal.returns
-returns c = record { refused = search rules; kept-where-refused = tt; begun = λ m xs P d l. begun l (omega arith) }
+returns c = record { refused = search rules; kept_where_refused = tt; begun = λ m xs P d l. begun l (omega arith) }

@@ -15,11 +15,11 @@ returns-then-i-records c =
     record {
       landed = λ m P d l.
           landed-as l c.args.self.at _ _ (
-          c.jump-of.ensures.as-asked m
+          c.jump_of.ensures.as_asked m
           ∙ ap (jump_of c.args.self.test) (distance _ _ _ c.if-len-le2147483647.true c.if-at-len.true (length-laid l))
           );
       elsewhere = λ i d h. get_or-set_other _ _ i _ d h;
-      origins-kept = origins-kept c.args.records.now _ _ _ refl;
+      origins_kept = origins-kept c.args.records.now _ _ _ refl;
     }
 
 -- src/table/laying.rt:132:5
@@ -37,5 +37,5 @@ returns-else-at-len c =
           ]
           );
       elsewhere = λ i d h. refl;
-      origins-kept = refl;
+      origins_kept = refl;
     }

@@ -4,14 +4,14 @@ use Rattle.code.proofs.table.Sealed.fetch.Goals as goal
 
 -- src/table.rt:42:13
 pub returns-then-f-self : goal.returns-then-f-self
-returns-then-f-self c = record { of-the-program = λ m. sym (no-function m _ _ _ _ _ (omega arith)); in-the-table = tt; placed = tt }
+returns-then-f-self c = record { of_the_program = λ m. sym (no-function m _ _ _ _ _ (omega arith)); in_the_table = tt; placed = tt }
 
 -- src/table.rt:46:13
 pub returns-then-pc-extent : goal.returns-then-pc-extent
 returns-then-pc-extent c =
     record {
-      of-the-program = λ m. sym (of_function m _ _ _ _ _ _ c.if-f-self.false c.if-f-extents.false ∙ past-code m _ _ _ c.if-pc-extent.true);
-      in-the-table = tt;
+      of_the_program = λ m. sym (of_function m _ _ _ _ _ _ c.if-f-self.false c.if-f-extents.false ∙ past-code m _ _ _ c.if-pc-extent.true);
+      in_the_table = tt;
       placed = tt;
     }
 
@@ -19,8 +19,8 @@ returns-then-pc-extent c =
 pub returns-then-at-records : goal.returns-then-at-records
 returns-then-at-records c =
     record {
-      of-the-program = λ m. sym (of_function m _ _ _ _ _ _ c.if-f-self.false c.if-f-extents.false ∙ past-table m _ _ _ c.if-at-records.true);
-      in-the-table = tt;
+      of_the_program = λ m. sym (of_function m _ _ _ _ _ _ c.if-f-self.false c.if-f-extents.false ∙ past-table m _ _ _ c.if-at-records.true);
+      in_the_table = tt;
       placed = tt;
     }
 
@@ -28,10 +28,10 @@ returns-then-at-records c =
 pub returns : goal.returns
 returns c =
     record {
-      of-the-program = λ m. sym (
+      of_the_program = λ m. sym (
           of_function m _ _ _ _ _ _ c.if-f-self.false c.if-f-extents.false
           ∙ in_code m _ _ _ _ c.if-pc-extent.false c.if-at-records.false
           );
-      in-the-table = stands_at c.args.self.now c.args.records.now _ _ _ _ c.if-f-self.false c.if-f-extents.false c.if-pc-extent.false c.if-at-records.false;
+      in_the_table = stands_at c.args.self.now c.args.records.now _ _ _ _ c.if-f-self.false c.if-f-extents.false c.if-pc-extent.false c.if-at-records.false;
       placed = omega arith;
     }

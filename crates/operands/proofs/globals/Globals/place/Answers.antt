@@ -15,6 +15,6 @@ returns c =
     let n = c.args.name.0 in
     let all = g.sized.0 in
     record {
-      first = first_place-from-first (λ (k : Name). k.0 ≡ n) (λ (k : Name). eqb k.0 n) (λ k. Decides-eqb k.0 n) _ _ c.first-equal.ensures.first;
-      within = bound c.first-equal.result c.first-equal.ensures.within (length-take-le g.len g.names (omega arith));
+      first = first_place-from-first (λ (k : Name). k.0 ≡ n) (λ (k : Name). eqb k.0 n) (λ k. Decides-eqb k.0 n) _ _ c.first_equal.ensures.first;
+      within = bound c.first_equal.result c.first_equal.ensures.within (length-take-le g.len g.names (omega arith));
     }
