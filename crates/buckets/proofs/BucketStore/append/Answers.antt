@@ -20,22 +20,19 @@ invariant_of-self c =
     let cs = s.chains.now in
     let b = c.bucket_of-bucket.result in
     let t = last_at cs b in
-    let r = led (get_or es t unused) s.len in (
-      long-set s.room es t r s.entered,
-      (
-        s.filled,
-        (
-          s.counted,
-          (
-            s.limits,
-            (
-              s.numbered,
-              linked-lead es cs s.len b (links s) (fit s) (c.begun.ensures.0 c.if-begun.true) r refl,
-            ),
-          ),
-        ),
-      ),
-    )
+    let r = led (get_or es t unused) s.len in
+    let linked = linked-lead es cs s.len b (links s) (fit s) (c.begun.ensures.0 c.if-begun.true) r refl in
+    record {
+      entered = long-set s.room es t r s.entered;
+      filled = s.filled;
+      counted = s.counted;
+      limits = s.limits;
+      numbered = s.numbered;
+      firsts = linked.0;
+      lasts = linked.1.0;
+      nexts = linked.1.1.0;
+      gaps = linked.1.1.1.0;
+    }
 
 -- the new entry stands there, and does not count yet
 pub invariant_of-self-then-begun : goal.invariant_of-self-then-begun
@@ -46,22 +43,19 @@ invariant_of-self-then-begun c =
     let b = c.bucket_of-bucket.result in
     let t = last_at cs b in
     let r = led (get_or es t unused) s.len in
-    let e : Chained = record { key = c.args.key; value = c.args.value; bucket = b; next = s.len } in (
-      long-set s.room (set es t r) s.len e (long-set s.room es t r s.entered),
-      (
-        s.filled,
-        (
-          s.counted,
-          (
-            s.limits,
-            (
-              s.numbered,
-              linked-beyond (set es t r) cs s.len (linked-lead es cs s.len b (links s) (fit s) (c.begun.ensures.0 c.if-begun.true) r refl) s.len e (omega arith),
-            ),
-          ),
-        ),
-      ),
-    )
+    let e : Chained = record { key = c.args.key; value = c.args.value; bucket = b; next = s.len } in
+    let linked = linked-beyond (set es t r) cs s.len (linked-lead es cs s.len b (links s) (fit s) (c.begun.ensures.0 c.if-begun.true) r refl) s.len e (omega arith) in
+    record {
+      entered = long-set s.room (set es t r) s.len e (long-set s.room es t r s.entered);
+      filled = s.filled;
+      counted = s.counted;
+      limits = s.limits;
+      numbered = s.numbered;
+      firsts = linked.0;
+      lasts = linked.1.0;
+      nexts = linked.1.1.0;
+      gaps = linked.1.1.1.0;
+    }
 
 -- it is the last of its chain
 pub invariant_of-self-then-begun-2 : goal.invariant_of-self-then-begun-2
@@ -73,43 +67,37 @@ invariant_of-self-then-begun-2 c =
     let t = last_at cs b in
     let r = led (get_or es t unused) s.len in
     let e : Chained = record { key = c.args.key; value = c.args.value; bucket = b; next = s.len } in
-    let room : s.len < s.room = c.requires in (
-      long-set s.room (set es t r) s.len e (long-set s.room es t r s.entered),
-      (
-        omega arith,
-        (
-          s.counted,
-          (
-            s.limits,
-            (
-              λ h. long-set 1 cs b _ (s.numbered h),
-              linked-append es cs s.len b (links s) (fit s) (c.begun.ensures.0 c.if-begun.true) r e refl refl (omega (arith, s.entered)) c.bucket_of-bucket.ensures.below refl,
-            ),
-          ),
-        ),
-      ),
-    )
+    let room : s.len < s.room = c.requires in
+    let linked = linked-append es cs s.len b (links s) (fit s) (c.begun.ensures.0 c.if-begun.true) r e refl refl (omega (arith, s.entered)) c.bucket_of-bucket.ensures.below refl in
+    record {
+      entered = long-set s.room (set es t r) s.len e (long-set s.room es t r s.entered);
+      filled = omega arith;
+      counted = s.counted;
+      limits = s.limits;
+      numbered = λ h. long-set 1 cs b _ (s.numbered h);
+      firsts = linked.0;
+      lasts = linked.1.0;
+      nexts = linked.1.1.0;
+      gaps = linked.1.1.1.0;
+    }
 
 pub invariant_of-self-else-begun : goal.invariant_of-self-else-begun
 invariant_of-self-else-begun c =
     let s = c.args.self.now in
     let es = s.entries.now in
-    let e : Chained = record { key = c.args.key; value = c.args.value; bucket = c.bucket_of-bucket.result; next = s.len } in (
-      long-set s.room es s.len e s.entered,
-      (
-        s.filled,
-        (
-          s.counted,
-          (
-            s.limits,
-            (
-              s.numbered,
-              linked-beyond es s.chains.now s.len (links s) s.len e (omega arith),
-            ),
-          ),
-        ),
-      ),
-    )
+    let e : Chained = record { key = c.args.key; value = c.args.value; bucket = c.bucket_of-bucket.result; next = s.len } in
+    let linked = linked-beyond es s.chains.now s.len (links s) s.len e (omega arith) in
+    record {
+      entered = long-set s.room es s.len e s.entered;
+      filled = s.filled;
+      counted = s.counted;
+      limits = s.limits;
+      numbered = s.numbered;
+      firsts = linked.0;
+      lasts = linked.1.0;
+      nexts = linked.1.1.0;
+      gaps = linked.1.1.1.0;
+    }
 
 -- or its first and last
 pub invariant_of-self-else-begun-2 : goal.invariant_of-self-else-begun-2
@@ -119,22 +107,19 @@ invariant_of-self-else-begun-2 c =
     let cs = s.chains.now in
     let b = c.bucket_of-bucket.result in
     let e : Chained = record { key = c.args.key; value = c.args.value; bucket = b; next = s.len } in
-    let room : s.len < s.room = c.requires in (
-      long-set s.room es s.len e s.entered,
-      (
-        omega arith,
-        (
-          s.counted,
-          (
-            s.limits,
-            (
-              λ h. long-set 1 cs b _ (s.numbered h),
-              linked-begin es cs s.len (links s) b e (omega (arith, s.entered)) c.bucket_of-bucket.ensures.below refl (not_from_Decides _ c.begun.ensures c.if-begun.false),
-            ),
-          ),
-        ),
-      ),
-    )
+    let room : s.len < s.room = c.requires in
+    let linked = linked-begin es cs s.len (links s) b e (omega (arith, s.entered)) c.bucket_of-bucket.ensures.below refl (not_from_Decides _ c.begun.ensures c.if-begun.false) in
+    record {
+      entered = long-set s.room es s.len e s.entered;
+      filled = omega arith;
+      counted = s.counted;
+      limits = s.limits;
+      numbered = λ h. long-set 1 cs b _ (s.numbered h);
+      firsts = linked.0;
+      lasts = linked.1.0;
+      nexts = linked.1.1.0;
+      gaps = linked.1.1.1.0;
+    }
 
 pub returns-then-begun : goal.returns-then-begun
 returns-then-begun c =

@@ -14,22 +14,19 @@ invariant_of-self c =
     let s = c.args.self.now in
     let es = s.entries.now in
     let i = c.in-Some.i in
-    let e = valued (get_or es i unused) c.args.value in (
-      long-set s.room es i e s.entered,
-      (
-        s.filled,
-        (
-          s.counted,
-          (
-            s.limits,
-            (
-              s.numbered,
-              linked-set es s.chains.now s.len (links s) i e (omega (arith, fit s, c.in-Some.ensures.within)) refl (λ _. refl),
-            ),
-          ),
-        ),
-      ),
-    )
+    let e = valued (get_or es i unused) c.args.value in
+    let linked = linked-set es s.chains.now s.len (links s) i e (omega (arith, fit s, c.in-Some.ensures.within)) refl (λ _. refl) in
+    record {
+      entered = long-set s.room es i e s.entered;
+      filled = s.filled;
+      counted = s.counted;
+      limits = s.limits;
+      numbered = s.numbered;
+      firsts = linked.0;
+      lasts = linked.1.0;
+      nexts = linked.1.1.0;
+      gaps = linked.1.1.1.0;
+    }
 
 pub returns-then-table-self : goal.returns-then-table-self
 returns-then-table-self c =

@@ -5,24 +5,24 @@ use Rattle.operands.specs.Slots.{registers_of}
 use Rattle.calls.proofs.Arguments.{nowhere, both-two, not-two, first-missing, last-missing, held-there}
 use Rattle.calls.proofs.builtins.both.Goals as goal
 
-pub returns-in-err-v : goal.returns-in-err-v
-returns-in-err-v c =
-    let p = err_from_is_err_and c.from-residual.result c.from-residual.ensures.1 in
+pub returns-in_err-v : goal.returns-in_err-v
+returns-in_err-v c =
+    let p = err_from_is_err_and c.from_residual.result c.from_residual.ensures.1 in
     let xs = c.args.registers.now in
     rw (p.1, p.2)
     (record {
-      held = λ m. first-missing (registers_of m xs) c.args.first.0 c.args.last.0 two refl _ (c.in-err-v.ensures.held m);
+      held = λ m. first-missing (registers_of m xs) c.args.first.0 c.args.last.0 two refl _ (c.in_err-v.ensures.held m);
       within = λ u h. tt;
       there = tt;
     })
 
-pub returns-in-err-w : goal.returns-in-err-w
-returns-in-err-w c =
-    let p = err_from_is_err_and c.from-residual-in-err-w.result c.from-residual-in-err-w.ensures.1 in
+pub returns-in_err-w : goal.returns-in_err-w
+returns-in_err-w c =
+    let p = err_from_is_err_and c.from_residual-in_err-w.result c.from_residual-in_err-w.ensures.1 in
     let xs = c.args.registers.now in
     rw (p.1, p.2)
     (record {
-      held = λ m. last-missing (registers_of m xs) c.args.first.0 c.args.last.0 _ (c.in-ok-v.ensures.held m) _ (c.in-err-w.ensures.held m);
+      held = λ m. last-missing (registers_of m xs) c.args.first.0 c.args.last.0 _ (c.in_ok-v.ensures.held m) _ (c.in_err-w.ensures.held m);
       within = λ u h. tt;
       there = tt;
     })
@@ -30,8 +30,8 @@ returns-in-err-w c =
 pub returns-then-first-last : goal.returns-then-first-last
 returns-then-first-last c =
     let xs = c.args.registers.now in
-    let v = c.in-ok-v.ensures in
-    let w = c.in-ok-w.ensures in
+    let v = c.in_ok-v.ensures in
+    let w = c.in_ok-w.ensures in
     record {
       held = λ m. both-two (registers_of m xs) c.args.first.0 c.args.last.0 _ _ (v.held m) (w.held m) (omega arith);
       within = λ u h. (v.within u h, w.within u h);

@@ -7,24 +7,24 @@ use Rattle.operands.specs.Slots.{registers_of}
 use Rattle.calls.proofs.Applied.{length_without, length-other, length-of}
 use Rattle.calls.proofs.builtins.length_of.Goals as goal
 
-pub returns-in-err-v : goal.returns-in-err-v
-returns-in-err-v c =
-    let p = err_from_is_err_and c.from-residual.result c.from-residual.ensures.1 in
+pub returns-in_err-v : goal.returns-in_err-v
+returns-in_err-v c =
+    let p = err_from_is_err_and c.from_residual.result c.from_residual.ensures.1 in
     let a = c.args in
     rw (p.1, p.2)
     (record {
-      answered = λ m o. sym (length_without (registers_of m a.registers.now) a.first.0 a.last.0 o _ (c.in-err-v.ensures.held m));
+      answered = λ m o. sym (length_without (registers_of m a.registers.now) a.first.0 a.last.0 o _ (c.in_err-v.ensures.held m));
       within = tt;
       there = tt;
     })
 
-pub returns-in-err-s : goal.returns-in-err-s
-returns-in-err-s c =
-    let p = err_from_is_err_and c.from-residual-in-err-s.result c.from-residual-in-err-s.ensures.1 in
+pub returns-in_err-s : goal.returns-in_err-s
+returns-in_err-s c =
+    let p = err_from_is_err_and c.from_residual-in_err-s.result c.from_residual-in_err-s.ensures.1 in
     let a = c.args in
     rw (p.1, p.2)
     (record {
-      answered = λ m o. sym (length-other (registers_of m a.registers.now) a.first.0 a.last.0 o _ (c.in-ok-v.ensures.held m) _ (c.in-err-s.ensures.its-bytes m));
+      answered = λ m o. sym (length-other (registers_of m a.registers.now) a.first.0 a.last.0 o _ (c.in_ok-v.ensures.held m) _ (c.in_err-s.ensures.its_bytes m));
       within = tt;
       there = tt;
     })
@@ -32,12 +32,12 @@ returns-in-err-s c =
 pub returns : goal.returns
 returns c =
     let a = c.args in
-    let v = c.in-ok-v.ensures in
-    let s = c.in-ok-s.s in
+    let v = c.in_ok-v.ensures in
+    let s = c.in_ok-s.s in
     let n : to_z w32 s.len ≡ pos s.len = omega (arith, ints) in
     record {
       answered = λ m o.
-          sym (length-of (registers_of m a.registers.now) a.first.0 a.last.0 o _ (v.held m) _ (c.in-ok-s.ensures.its-bytes m)
+          sym (length-of (registers_of m a.registers.now) a.first.0 a.last.0 o _ (v.held m) _ (c.in_ok-s.ensures.its_bytes m)
           ∙ ap (λ (k : ℕ). Ok (Val.int (pos k), o)) (length-bytes_of m s)
           ∙ ap (λ (k : ℤ). Ok (Val.int k, o)) (sym n));
       within = omega arith;

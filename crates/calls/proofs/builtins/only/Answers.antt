@@ -5,13 +5,13 @@ use Rattle.operands.specs.Slots.{registers_of}
 use Rattle.calls.proofs.Arguments.{nowhere, only_one, not-one, first-missing, held-there}
 use Rattle.calls.proofs.builtins.only.Goals as goal
 
-pub returns-in-err-v : goal.returns-in-err-v
-returns-in-err-v c =
-    let p = err_from_is_err_and c.from-residual.result c.from-residual.ensures.1 in
+pub returns-in_err-v : goal.returns-in_err-v
+returns-in_err-v c =
+    let p = err_from_is_err_and c.from_residual.result c.from_residual.ensures.1 in
     let xs = c.args.registers.now in
     rw (p.1, p.2)
     (record {
-      held = λ m. first-missing (registers_of m xs) c.args.first.0 c.args.last.0 one refl _ (c.in-err-v.ensures.held m);
+      held = λ m. first-missing (registers_of m xs) c.args.first.0 c.args.last.0 one refl _ (c.in_err-v.ensures.held m);
       within = λ u h. tt;
       there = tt;
     })
@@ -19,7 +19,7 @@ returns-in-err-v c =
 pub returns-then-first-last : goal.returns-then-first-last
 returns-then-first-last c =
     let xs = c.args.registers.now in
-    let v = c.in-ok-v.ensures in
+    let v = c.in_ok-v.ensures in
     record {
       held = λ m. only_one (registers_of m xs) c.args.first.0 c.args.last.0 _ (v.held m) c.if-first-last.true;
       within = λ u h. v.within u h;

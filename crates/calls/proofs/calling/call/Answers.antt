@@ -14,9 +14,9 @@ use Rattle.calls.proofs.calling.call.Goals as goal
 here : (m : Memory) (xs : List (Option Value)) (w a : ℕ) → function_at (registers_of m (part xs w)) a ≡ function_at (registers_of m (window xs w)) a
 here m xs w a = ap (λ (z : List (Option Value)). function_at (registers_of m z) a) (part-window xs w)
 
-pub returns-in-err-name : goal.returns-in-err-name
-returns-in-err-name c =
-    let p = err_from_is_err_and c.from-residual.result c.from-residual.ensures.1 in
+pub returns-in_err-name : goal.returns-in_err-name
+returns-in_err-name c =
+    let p = err_from_is_err_and c.from_residual.result c.from_residual.ensures.1 in
     let a = c.args in
     let xs = a.registers.now in
     let w = a.calls.now.waiting in
@@ -24,7 +24,7 @@ returns-in-err-name c =
     let room = c.requires.roomy in
     rw (p.1, p.2)
     (record {
-      called = λ T G live. (call-nothing a.a.0 a.first.0 a.last.0 T G b _ (c.in-err-name.ensures.held b.memory ∙ here b.memory xs w a.a.0), refl);
+      called = λ T G live. (call-nothing a.a.0 a.first.0 a.last.0 T G b _ (c.in_err-name.ensures.held b.memory ∙ here b.memory xs w a.a.0), refl);
       few = room.sized.few;
       shown = room.shown;
     })
@@ -35,12 +35,12 @@ returns-in-Some c =
     let xs = a.registers.now in
     let w = a.calls.now.waiting in
     let b = content a.fixed.now a.texts.now a.made.now a.spent.now a.out.now xs a.callers.now a.calls.now in
-    let g = c.in-ok-name.name.0 in
-    let f = c.in-ok-name.ensures.held b.memory ∙ here b.memory xs w a.a.0 in
+    let g = c.in_ok-name.name.0 in
+    let f = c.in_ok-name.ensures.held b.memory ∙ here b.memory xs w a.a.0 in
     record {
       called = λ T G live.
           called-as b T G _ _ c.answer.result _
-          (call-answers a.a.0 a.first.0 a.last.0 T G b g f c.in-Some.builtin c.in-Some.ensures.whose-number-it-is)
+          (call-answers a.a.0 a.first.0 a.last.0 T G b g f c.in-Some.builtin c.in-Some.ensures.whose_number_it_is)
           (c.answer.ensures.called g T G live);
       few = c.answer.ensures.few;
       shown = c.answer.ensures.shown;
@@ -52,13 +52,13 @@ returns-in-None c =
     let xs = a.registers.now in
     let w = a.calls.now.waiting in
     let b = content a.fixed.now a.texts.now a.made.now a.spent.now a.out.now xs a.callers.now a.calls.now in
-    let g = c.in-ok-name.name.0 in
-    let f = c.in-ok-name.ensures.held b.memory ∙ here b.memory xs w a.a.0 in
+    let g = c.in_ok-name.name.0 in
+    let f = c.in_ok-name.ensures.held b.memory ∙ here b.memory xs w a.a.0 in
     let n = c.enter.ensures in
     record {
       called = λ T G live.
           called-as b T G _ _ c.enter.result _
-          (call_enters a.a.0 a.first.0 a.last.0 T G b g f c.in-None.ensures.whose-number-it-is)
+          (call_enters a.a.0 a.first.0 a.last.0 T G b g f c.in-None.ensures.whose_number_it_is)
           (entered-called b T G _ c.enter.result _ _ _ (n.entered b.memory (world_in T G b)) (n.within a.spent.now.bytes live));
       few = n.few;
       shown = c.requires.roomy.shown;

@@ -14,12 +14,12 @@ returns-then-last-first c =
       within = omega arith;
     }
 
-pub returns-then-all-set : goal.returns-then-all-set
-returns-then-all-set c =
+pub returns-then-all_set : goal.returns-then-all_set
+returns-then-all_set c =
     let a = c.args in
     let xs = a.registers.now in
     let n = a.last.0 + 1 - a.first.0 in
-    let set = c.if-all-set.ensures in
+    let set = c.if-all_set.ensures in
     let e : suc a.last.0 - a.first.0 ≡ n = omega arith in
     let w = set-within xs a.first.0 (a.last.0 + 1) (omega arith) set in
     record {
@@ -29,11 +29,11 @@ returns-then-all-set c =
       within = omega arith;
     }
 
-pub returns-else-all-set : goal.returns-else-all-set
-returns-else-all-set c =
+pub returns-else-all_set : goal.returns-else-all_set
+returns-else-all_set c =
     let a = c.args in
     let xs = a.registers.now in
-    let k = c.if-all-set.ensures in
+    let k = c.if-all_set.ensures in
     record {
       passed = λ m. some-missing m xs (suc a.last.0 - a.first.0) a.first.0 k.0 k.1 (let l = k.2 in omega arith) k.3;
       within = tt;

@@ -21,7 +21,7 @@ returns-in-Some g c =
             slot-set m xs a (Loc l) low ∙ ap (λ k. write (registers_of m xs) a (Val.location k)) t.1,
             t.2,
           );
-      registers-within = λ u h k. slot-within u xs a (Loc l) low h (omega arith) k;
-      store-within = λ u h. s.within u h;
+      registers_within = λ u h k. slot-within u xs a (Loc l) low h (omega arith) k;
+      store_within = λ u h. s.within u h;
       limits = (s.tables, s.room);
     }

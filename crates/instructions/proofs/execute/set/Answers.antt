@@ -8,8 +8,8 @@ pub returns : goal.returns
 returns c =
     let xs = c.args.registers.now in
     let i = c.args.answer.target.0 in
-    let v = c.in-ok-v.v in
-    let e = c.in-ok-v.was in
+    let v = c.in_ok-v.v in
+    let e = c.in_ok-v.was in
     let l = c.if-i-registers.false in
     record {
       set = λ m n. answer-set m xs i c.args.answer.value v e n l;

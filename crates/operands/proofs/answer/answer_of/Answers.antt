@@ -1,6 +1,6 @@
 use Rattle.std.proofs.Common.{refl, ap, ◌∙◌}
 use Rattle.text.specs.Memory.{memory_of}
-use Rattle.machine.specs.Outcome.{goal as required}
+use Rattle.machine.specs.Outcome.{need as required}
 use Rattle.operands.specs.Globals.{globals_of}
 use Rattle.operands.specs.Slots.{registers_of}
 use Rattle.operands.proofs.Answering.{given-answers, given-within}

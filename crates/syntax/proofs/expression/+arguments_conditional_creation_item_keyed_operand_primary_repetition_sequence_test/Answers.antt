@@ -17,20 +17,20 @@ sequence-returns-in_err-a t c =
     let p = err_from_is_err_and c.from_residual.result c.from_residual.ensures.1 in
     rw (p.1, p.2) (record { moves = tt; reads = lower 4 (omega arith) c.in_err-a.ensures.reads })
 
-pub sequence-returns-in_err-b : goal.sequence-returns-in_err-b
-sequence-returns-in_err-b t c =
-    let p = err_from_is_err_and c.from_residual-in_err-b.result c.from_residual-in_err-b.ensures.1 in
-    rw (p.1, p.2) (record { moves = tt; reads = seq-lost c.in_ok-a.ensures.reads (record { is = c.in-Some.ensures.found.1 }) c.in_err-b.ensures.reads })
+pub sequence-returns-in_err-b-in-Some : goal.sequence-returns-in_err-b-in-Some
+sequence-returns-in_err-b-in-Some t c =
+    let p = err_from_is_err_and c.from_residual-in_err-b-in-Some.result c.from_residual-in_err-b-in-Some.ensures.1 in
+    rw (p.1, p.2) (record { moves = tt; reads = seq-lost c.in_ok-a.ensures.reads (record { is = c.in-Some.ensures.found.1 }) c.in_err-b-in-Some.ensures.reads })
 
-pub sequence-returns-in_ok-b : goal.sequence-returns-in_ok-b
-sequence-returns-in_ok-b t c =
+pub sequence-returns-in_ok-b-in-Some : goal.sequence-returns-in_ok-b-in-Some
+sequence-returns-in_ok-b-in-Some t c =
     let ma = c.in_ok-a.ensures.moves in
-    let mb = c.in_ok-b.ensures.moves in
+    let mb = c.in_ok-b-in-Some.ensures.moves in
     let i = c.in-Some.ensures.inside in
     let put = c.put.ensures.put in
     record {
       moves = seq-moves ma i mb put;
-      reads = seq-made c.in_ok-a.ensures.reads (record { is = c.in-Some.ensures.found.1 }) c.in_ok-b.ensures.reads put ma mb (sym c.sequence.auto.nodes) c.beside.ensures;
+      reads = seq-made c.in_ok-a.ensures.reads (record { is = c.in-Some.ensures.found.1 }) c.in_ok-b-in-Some.ensures.reads put ma mb (sym c.sequence.auto.nodes) c.beside.ensures;
     }
 
 pub sequence-returns-in-None : goal.sequence-returns-in-None
@@ -39,19 +39,19 @@ sequence-returns-in-None t c =
 
 -- item
 
-pub item-returns-in_err-e : goal.item-returns-in_err-e
-item-returns-in_err-e t c =
+pub item-returns-in_err-e-in-Some : goal.item-returns-in_err-e-in-Some
+item-returns-in_err-e-in-Some t c =
     let p = err_from_is_err_and c.from_residual.result c.from_residual.ensures.1 in
-    rw (p.1, p.2) (record { moves = tt; reads = set-lost c.in-Some.ensures.found c.in_err-e.ensures.reads })
+    rw (p.1, p.2) (record { moves = tt; reads = set-lost c.in-Some.ensures.found c.in_err-e-in-Some.ensures.reads })
 
-pub item-returns-in_ok-e : goal.item-returns-in_ok-e
-item-returns-in_ok-e t c =
-    let me = c.in_ok-e.ensures.moves in
+pub item-returns-in_ok-e-in-Some : goal.item-returns-in_ok-e-in-Some
+item-returns-in_ok-e-in-Some t c =
+    let me = c.in_ok-e-in-Some.ensures.moves in
     let i = c.in-Some.ensures.inside in
     let put = c.put.ensures.put in
     record {
       moves = set-moves i me put;
-      reads = set-made c.in-Some.ensures.found c.in_ok-e.ensures.reads put c.written.ensures.by_its_target me (omega arith) (omega arith) c.deeper.ensures c.learn_target-known.ensures.named_by_it;
+      reads = set-made c.in-Some.ensures.found c.in_ok-e-in-Some.ensures.reads put c.written.ensures.by_its_target me (omega arith) (omega arith) c.deeper.ensures c.learn_target-known.ensures.named_by_it;
     }
 
 pub item-returns-in-None : goal.item-returns-in-None
