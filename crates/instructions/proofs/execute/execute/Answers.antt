@@ -9,8 +9,8 @@ use Rattle.instructions.specs.Local.{Local, limits, Executed}
 use Rattle.instructions.proofs.Local.{local-acts, local-set, local-refused}
 use Rattle.instructions.proofs.execute.execute.Goals as goal
 
-pub returns-in_err-set : goal.returns-in_err-set
-returns-in_err-set g c =
+pub returns-in_err-set-in-Some : goal.returns-in_err-set-in-Some
+returns-in_err-set-in-Some g c =
     let p = err_from_is_err_and c.from_residual.result c.from_residual.ensures.1 in
     let a = c.args in
     let m = memory_of a.bytes in
@@ -18,7 +18,7 @@ returns-in_err-set g c =
     let R = registers_of m a.registers.now in
     let G = globals_of m a.globals.now in
     let s = c.in-Some.ensures in
-    let b = c.in_err-set.ensures in
+    let b = c.in_err-set-in-Some.ensures in
     rw (p.1, p.2)
     (record {
       executed = λ T h n. (
@@ -31,15 +31,15 @@ returns-in_err-set g c =
       limits = (refl, refl);
     })
 
-pub returns-in_ok-set : goal.returns-in_ok-set
-returns-in_ok-set g c =
+pub returns-in_ok-set-in-Some : goal.returns-in_ok-set-in-Some
+returns-in_ok-set-in-Some g c =
     let a = c.args in
     let m = memory_of a.bytes in
     let L = limits (g.S.Store.tables a.store.now) (g.S.Store.room a.store.now) in
     let R = registers_of m a.registers.now in
     let G = globals_of m a.globals.now in
     let s = c.in-Some.ensures in
-    let b = c.in_ok-set.ensures in
+    let b = c.in_ok-set-in-Some.ensures in
     record {
       executed = λ T h n. (
         T,

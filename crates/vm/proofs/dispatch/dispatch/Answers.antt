@@ -14,7 +14,7 @@ returns-in-Call g c =
     let b = content a.fixed.now a.texts.now a.made.now a.spent.now a.out.now a.registers.now a.callers.now a.calls.now in
     let l = lent a.code.now a.records.now a.globals.now b in
     let st = a.store.now in
-    let law = c.lent-more.ensures in
+    let law = c.lent_more.ensures in
     let e = c.call.ensures in
     record {
       done = λ P L m s k.
@@ -31,11 +31,11 @@ returns-in-Ret g c =
     let b = content a.fixed.now a.texts.now a.made.now a.spent.now a.out.now a.registers.now a.callers.now a.calls.now in
     let l = lent a.code.now a.records.now a.globals.now b in
     let st = a.store.now in
-    let e = c.give-back.ensures in
+    let e = c.give_back.ensures in
     record {
       done = λ P L m s k.
           return-does (g.S.Store.holds st) (g.S.Store.within st) (g.S.Store.tables st) (g.S.Store.room st) l P L m s
-          (instr b.memory a.i) _ c.give-back.result _ _ _ (ap (instr b.memory) c.in-Ret.is)
+          (instr b.memory a.i) _ c.give_back.result _ _ _ (ap (instr b.memory) c.in-Ret.is)
           (e.left b.memory (world_in s.tables (globals_of b.memory a.globals.now) b)) (e.within a.spent.now.bytes s.live-within);
       few = e.few;
       shown = c.requires.roomy.shown;
@@ -56,15 +56,15 @@ returns-in-Halt g c =
       shown = c.requires.roomy.shown;
     }
 
-pub returns-in-default : goal.returns-in-default
-returns-in-default g c =
+pub returns-in_default : goal.returns-in_default
+returns-in_default g c =
     let a = c.args in
     let b = content a.fixed.now a.texts.now a.made.now a.spent.now a.out.now a.registers.now a.callers.now a.calls.now in
     let l = lent a.code.now a.records.now a.globals.now b in
     let st = a.store.now in
     let st' = c.stay.new.store in
     let e = c.stay.ensures in
-    let kept = staying b.memory a.i c.in-default.not-Call c.in-default.not-Ret c.in-default.not-Halt in
+    let kept = staying b.memory a.i c.in_default.not-Call c.in_default.not-Ret c.in_default.not-Halt in
     record {
       done = λ P L m s k.
           stay-does (g.S.Store.holds st) (g.S.Store.within st) (g.S.Store.tables st) (g.S.Store.room st) l P L m s

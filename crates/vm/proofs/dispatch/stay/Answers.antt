@@ -13,9 +13,9 @@ use Rattle.vm.specs.Standing.{limits}
 use Rattle.vm.proofs.Frames.{stay-ends, stay-goes, lent-within}
 use Rattle.vm.proofs.dispatch.stay.Goals as goal
 
-pub returns-in-err-pc : goal.returns-in-err-pc
-returns-in-err-pc g c =
-    let p = err_from_is_err_and c.from-residual.result c.from-residual.ensures.1 in
+pub returns-in_err-pc : goal.returns-in_err-pc
+returns-in_err-pc g c =
+    let p = err_from_is_err_and c.from_residual.result c.from_residual.ensures.1 in
     let a = c.args in
     let m = memory_of a.bytes in
     let xs = a.registers.now in
@@ -26,7 +26,7 @@ returns-in-err-pc g c =
     let whole : length (part xs w) ≡ registers_per_frame = ap length (part-window xs w) ∙ length-window xs w c.requires.sized in
     let len : length zs ≡ registers_per_frame = omega (arith, c.execute.auto.registers) in
     let here : (u : ℕ) → LiveWithin u xs w → Within u (part xs w) = λ u h. subst (Within u) (sym (part-window xs w)) (h w (omega arith)) in
-    let e = c.in-err-pc.ensures in
+    let e = c.in_err-pc.ensures in
     rw (p.1, p.2)
     (record {
       stayed = λ P fs o T s h.
@@ -54,7 +54,7 @@ returns g c =
     let whole : length (part xs w) ≡ registers_per_frame = ap length (part-window xs w) ∙ length-window xs w c.requires.sized in
     let len : length zs ≡ registers_per_frame = omega (arith, c.execute.auto.registers) in
     let here : (u : ℕ) → LiveWithin u xs w → Within u (part xs w) = λ u h. subst (Within u) (sym (part-window xs w)) (h w (omega arith)) in
-    let e = c.in-ok-pc.ensures in
+    let e = c.in_ok-pc.ensures in
     record {
       stayed = λ P fs o T s h.
           let x = e.executed T h whole in

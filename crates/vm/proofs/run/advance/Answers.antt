@@ -14,8 +14,8 @@ returns-in-Some g c =
     let e = c.dispatch.ensures in
     record {
       stepped = λ P L m s.
-          some-steps (g.S.Store.holds st) (g.S.Store.within st) (g.S.Store.tables st) (g.S.Store.room st) l P L m s c.in-Some.record c.dispatch.result _ (f.of-the-program b.memory)
-          (e.done P L m s (constant-within a.spent.now.bytes a.code.now a.records.now _ _ c.in-Some.record s.code-within f.in-the-table));
+          some-steps (g.S.Store.holds st) (g.S.Store.within st) (g.S.Store.tables st) (g.S.Store.room st) l P L m s c.in-Some.record c.dispatch.result _ (f.of_the_program b.memory)
+          (e.done P L m s (constant-within a.spent.now.bytes a.code.now a.records.now _ _ c.in-Some.record s.code-within f.in_the_table));
       few = e.few;
       shown = e.shown;
     }
@@ -27,7 +27,7 @@ returns-in-None g c =
     let l = lent a.code.now a.records.now a.globals.now b in
     let st = a.store.now in
     record {
-      stepped = λ P L m s. none-ends (g.S.Store.holds st) (g.S.Store.within st) (g.S.Store.tables st) (g.S.Store.room st) l P L m s (c.in-None.ensures.of-the-program b.memory);
+      stepped = λ P L m s. none-ends (g.S.Store.holds st) (g.S.Store.within st) (g.S.Store.tables st) (g.S.Store.room st) l P L m s (c.in-None.ensures.of_the_program b.memory);
       few = c.requires.sized.few;
       shown = c.requires.shown;
     }

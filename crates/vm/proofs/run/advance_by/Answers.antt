@@ -7,7 +7,7 @@ loop-i-init g c = (c.requires, λ P L m s. none_made P L c.args.n m _ s)
 
 pub loop-i-preserved : goal.loop-i-preserved
 loop-i-preserved g c =
-    let e = c.in-default.ensures in
+    let e = c.in_default.ensures in
     let room = c.loop-i.invariant.0 in
     let kept = c.advance.auto in (
       record {
