@@ -1,5 +1,5 @@
 -- Methods in their table. Assumes nothing.
-use Rattle.std.specs.Prelude.{◌≡◌, List, [], ◌∷◌, ℕ, ◌<◌, length, get_or}
+use Rattle.std.specs.Prelude.{◌≡◌, List, [], ◌∷◌, ℕ, ◌<◌, length, slice_index_or}
 use Rattle.text.specs.declared.span.Space.TheVariants.{Texts}
 use Rattle.text.specs.declared.span.Span.{Span}
 use Rattle.text.specs.Memory.{Memory}
@@ -16,7 +16,7 @@ no_span = record { space = Texts; start = 0; len = 0 }
 -- the parameters: how many there are, and the words of the first
 pub record ParametersAt (m : Memory) (r : Parameters) (ps : List (List ℕ)) : Type 0 where
   pub many : r.count ≡ length ps
-  pub words : (i : ℕ) → i < length ps → i < argument_limit → WordAt m (get_or r.names i no_span) (get_or ps i [])
+  pub words : (i : ℕ) → i < length ps → i < argument_limit → WordAt m (slice_index_or r.names i no_span) (slice_index_or ps i [])
 
 -- the method is recorded so, and its body stands in the node table below n
 pub record MethodAt (m : Memory) (xs : List Node) (n : ℕ) (r : Method) (d : tree.Method ℕ) : Type 0 where

@@ -1,5 +1,5 @@
 -- Trees in a node table. Assumes nothing.
-use Rattle.std.specs.Prelude.{◌≡◌, List, ℕ, ◌+◌, ◌-◌, ◌%◌, ◌^◌, ◌<◌, ◌≤◌, length, get_or}
+use Rattle.std.specs.Prelude.{◌≡◌, List, ℕ, ◌+◌, ◌-◌, ◌%◌, ◌^◌, ◌<◌, ◌≤◌, length, slice_index, slice_index_or}
 use Rattle.text.specs.declared.span.Space.TheVariants.{Texts}
 use Rattle.text.specs.declared.span.Span.{Span}
 use Rattle.text.specs.Memory.{Memory, bytes_of}
@@ -14,7 +14,7 @@ use Rattle.nodes.specs.declared.node.Form.TheVariants.{Int, Nil, SelfWord, Str, 
 -- the memory of texts has the text from `base` on, where spans reach it
 pub record Lies (m : Memory) (text : List ℕ) (base : ℕ) : Type 0 where
   pub reached : base + length text < 2 ^ 16
-  pub same : (i : ℕ) → i < length text → get_or m.texts (base + i) 0 ≡ get_or text i 0
+  pub same : (i : ℕ) → i < length text → slice_index m.texts (base + i) ≡ slice_index text i
 
 -- the bytes `from` up to `to` of a text that begins at `base`
 abbrev pub span_of : ℕ → ℕ → ℕ → Span
@@ -25,7 +25,7 @@ abbrev pub WordAt : Memory → Span → List ℕ → Type 0
 WordAt m s w = (s.space ≡ Texts) × (bytes_of m s ≡ w)
 
 abbrev pub at : List Node → ℕ → Node
-at xs i = get_or xs i (record { place = 0; form = Nil })
+at xs i = slice_index_or xs i (record { place = 0; form = Nil })
 
 -- the node i
 abbrev pub NodeAt : List Node → ℕ → ℕ → Form → Type 0
@@ -56,4 +56,4 @@ abbrev mutual
   pub ArgsAt : Memory → List Node → ℕ → List ℕ → Args ℕ → Type 0
   ArgsAt m xs i roots Args.none = Unit {0}
   ArgsAt m xs i roots (Args.more es e) =
-      ArgsAt m xs i roots es × (count es < argument_limit → (get_or roots (count es) 0 < i) × TreeAt m xs (get_or roots (count es) 0) e)
+      ArgsAt m xs i roots es × (count es < argument_limit → (slice_index roots (count es) < i) × TreeAt m xs (slice_index roots (count es)) e)

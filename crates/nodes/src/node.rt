@@ -1,11 +1,43 @@
 // The nodes of trees, in a table: parts stand before the whole.
+ghost use Rattle.std.specs.Prelude.{◌≡◌, ◌+◌, ◌-◌, ◌^◌, ◌<◌, [], ◌∷◌, slice_set};
+
 use text::span::Span;
+
+// The arguments of a call, and the parameters of a method.
+pub const ARGUMENTS: u16 = 4;
 
 // The arguments of a call: how many there are, and where the first four stand.
 #[derive(Clone, Copy)]
 pub struct Arguments {
     pub count: u16,
     pub roots: [u16; 4],
+}
+
+impl Arguments {
+    pub fn none() -> Arguments
+        ensures { result ≡ record { count = 0; roots = 0 ∷ 0 ∷ 0 ∷ 0 ∷ [] } }
+    {
+        Arguments {
+            count: 0,
+            roots: [0, 0, 0, 0],
+        }
+    }
+
+    // One more argument; only the first four are kept.
+    pub fn with(self, root: u16) -> Arguments
+        requires { self.count < 2 ^ 16 - 1 }
+        ensures counted { result.count ≡ self.count + 1 }
+        ensures kept { result.roots ≡ slice_set self.roots self.count root }
+    {
+        let mut roots = self.roots;
+        if self.count < ARGUMENTS {
+            roots[self.count as usize] = root;
+        }
+        Arguments {
+            count: self.count + 1,
+            roots,
+        }
+    }
 }
 
 #[derive(Clone, Copy)]

@@ -1,5 +1,5 @@
 -- The distinct names of a body, kept as spans of its text.
-use Rattle.std.proofs.Common.{◌≡◌, ℕ, zero, suc, ◌+◌, ◌<◌, ◌≤◌, min, Bool, true, false, cond, ◌||◌, List, [], ◌∷◌, ◌++◌, map, length, get_or, take, set, sym, refl, ap, ◌∙◌, subst, ap₂, ⊎_elim, arith}
+use Rattle.std.proofs.Common.{◌≡◌, ℕ, zero, suc, ◌+◌, ◌^◌, ◌<◌, ◌≤◌, min, Bool, true, false, cond, ◌||◌, List, [], ◌∷◌, ◌++◌, map, length, get_or, take, set, sym, refl, ap, ◌∙◌, subst, ap₂, ⊎_elim, arith}
 use Rattle.std.proofs.lemmas.Slice.Eq.{bytes_eq-Decides}
 use Rattle.std.proofs.lemmas.List.{take_more_set, map_push, length_push, length-map, length-set, get_or-map}
 use Rattle.std.proofs.lemmas.Bool.{cases_Bool, or_right, or_from, cond-true, cond-false}
@@ -9,10 +9,10 @@ use Rattle.text.specs.Memory.{bytes_of}
 use Rattle.grammar.specs.Machine.{Target}
 use Rattle.grammar.specs.Measure.{known, learn, learn_all}
 use Rattle.syntax.specs.Sight.{slice}
-use Rattle.nodes.specs.Trees.{Lies, span_of}
+use Rattle.nodes.specs.Trees.{span_of}
 use Rattle.syntax.specs.Sizes.{lone, Knows, Learns}
 use Rattle.syntax.specs.Parsing.{named, LearnsTarget}
-use Rattle.syntax.proofs.Nodes.{word_at}
+use Rattle.syntax.proofs.Nodes.{word-from}
 
 known_at : (ns : List (List ℕ)) (i : ℕ) (x : List ℕ) → i < length ns → get_or ns i [] ≡ x → known ns x ≡ true
 known_at [] i x h e = absurd (omega arith)
@@ -48,10 +48,15 @@ pub no_names : {text : List ℕ} {us : List Span} → length us ≡ 16 → Knows
 no_names h = record { room = h; many = refl; words = λ _. refl }
 
 -- the bytes of a name in its own text
-pub name-bytes : (text : List ℕ) (s : Span) (from to : ℕ) → length text ≤ 4096 → from ≤ to → to ≤ length text → s ≡ span_of 0 from to → bytes_of (lone text) s ≡ slice text from to
+pub name-bytes : (text : List ℕ) (s : Span) (from to : ℕ) → from < 2 ^ 16 → from ≤ to → to ≤ length text → s ≡ span_of 0 from to → bytes_of (lone text) s ≡ slice text from to
 name-bytes text s from to h le g e =
-    let lies : Lies (lone text) text 0 = record { reached = omega arith; same = λ i lt. ap (λ z. get_or text z 0) (let e : 0 + i ≡ i = omega arith in e) } in
-    ap (bytes_of (lone text)) e ∙ (word_at (lone text) text 0 from to lies le g).1
+    ap (bytes_of (lone text)) e
+    ∙ (word-from (lone text) text 0 from to (omega arith) (λ i lt. ap (λ z. get_or text z 0) (let e : 0 + i ≡ i = omega arith in e)) le g).1
+
+-- so a name is learnt by where it lies
+pub learnt-there : {text : List ℕ} {us vs : List Span} {m r : ℕ} (s : Span) (from to : ℕ) → from < 2 ^ 16 → from ≤ to → to ≤ length text → s ≡ span_of 0 from to
+    → Learns text us vs m (bytes_of (lone text) s) r → Learns text us vs m (slice text from to) r
+learnt-there {text} {us} {vs} {m} {r} s from to h le g e l = subst (λ (x : List ℕ). Learns text us vs m x r) (name-bytes text s from to h le g e) l
 
 module _ {text : List ℕ} {us : List Span} {m : ℕ} {x : List ℕ} where
   -- more than the limit stay more

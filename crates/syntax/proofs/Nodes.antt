@@ -11,7 +11,7 @@ use Rattle.nodes.specs.declared.node.Node.{Node}
 use Rattle.syntax.specs.declared.read.Got.{Got}
 use Rattle.syntax.specs.declared.read.Size.{Size}
 use Rattle.syntax.specs.Sight.{slice}
-use Rattle.nodes.specs.Trees.{Lies, WordAt, at, TreeAt, ArgsAt}
+use Rattle.nodes.specs.Trees.{Lies, span_of, WordAt, at, TreeAt, ArgsAt}
 use Rattle.syntax.specs.Parsing.{Kept, Put}
 
 pub kept-all : (xs : List Node) (n : ℕ) → Kept xs xs n
@@ -98,22 +98,26 @@ args-set m xs (Args.more es e) i roots k r h t = (
       subst (λ z. (z < i) × TreeAt m xs z e) same (t.1 q),
 )
 
--- the span of a part of a text that lies in the memory
-module _ (m : Memory) (text : List ℕ) (base from to : ℕ) (lies : Lies m text base) (h : from ≤ to) (g : to ≤ length text) where
+-- the span of a part of a text that stands in the memory from `base` on
+module _ (m : Memory) (text : List ℕ) (base from to : ℕ) (low : base + from < 2 ^ 16) (same : (i : ℕ) → i < length text → get_or m.texts (base + i) 0 ≡ get_or text i 0) (h : from ≤ to) (g : to ≤ length text) where
   spanned : Span
   spanned = record { space = Texts; start = (base + from) % 2 ^ 16; len = to - from }
 
   start_is : (base + from) % 2 ^ 16 ≡ base + from
-  start_is = let r = lies.reached in mod-eq_of_lt (omega arith)
+  start_is = mod-eq_of_lt low
 
-  pub word_at : WordAt m (record { space = Texts; start = (base + from) % 2 ^ 16; len = to - from }) (slice text from to)
+  pub word-from : WordAt m (record { space = Texts; start = (base + from) % 2 ^ 16; len = to - from }) (slice text from to)
   unfolding spanned
-  word_at = (
+  word-from = (
     refl,
     same_lists (bytes_of m spanned) (slice text from to) (length-bytes_of m spanned ∙ sym (simp (length-take, length-drop) (omega arith)))
         (λ k d q.
         let lt : k < to - from = omega (arith, length-bytes_of m spanned) in
         let e : (base + from) % 2 ^ 16 + k ≡ base + (from + k) = let s = start_is in omega arith in
-        get_or-bytes_of m spanned k d lt ∙ ap (λ z. get_or m.texts z 0) e ∙ lies.same (from + k) (omega arith)
+        get_or-bytes_of m spanned k d lt ∙ ap (λ z. get_or m.texts z 0) e ∙ same (from + k) (omega arith)
         ∙ sym (get_or-take (to - from) (drop from text) k d lt ∙ get_or-drop from text k d ∙ get_or_default text (from + k) d 0 (omega arith))),
   )
+
+-- the span of a part of a text that lies in the memory
+pub word_at : (m : Memory) (text : List ℕ) (base from to : ℕ) → Lies m text base → from ≤ to → to ≤ length text → WordAt m (span_of base from to) (slice text from to)
+word_at m text base from to lies h g = let r = lies.reached in word-from m text base from to (omega arith) lies.same h g

@@ -10,19 +10,21 @@ use Rattle.grammar.specs.Tree.{Expr, Text, BareText}
 use Rattle.grammar.specs.Grammar.{Kind, tokens_of, FormedText}
 use Rattle.grammar.specs.Machine.{Context, State, Outcome, run, parse}
 use Rattle.grammar.specs.Notes.{forget, forget_text, annotate, annotate_text}
-use Rattle.grammar.specs.Measure.{BodyWithin}
 use Rattle.grammar.proofs.Steps.{rule-halts}
 use Rattle.grammar.proofs.Whole.{law}
 use Rattle.nodes.specs.declared.node.Node.{Node}
 use Rattle.syntax.specs.declared.read.Got.{Got}
 use Rattle.nodes.specs.declared.node.Method.{Method}
 use Rattle.syntax.specs.declared.read.Judged.{Judged}
+use Rattle.syntax.specs.declared.read.JudgedRule.{JudgedRule}
+use Rattle.nodes.specs.declared.refusal.Refusal.{Refusal}
+use Rattle.nodes.specs.declared.refusal.Refusal.TheVariants.{TooLong, Stray, Unexpected, OverLimit}
 use Rattle.nodes.specs.declared.node.Rule.{Rule}
 use Rattle.syntax.specs.declared.sight.Sort.{Sort}
 use Rattle.syntax.specs.Left.{left, terms, places}
 use Rattle.syntax.specs.Sight.{shown}
 use Rattle.syntax.specs.Breaks.{kinds, places_of, Lexes, Breaks}
-use Rattle.syntax.specs.Whole.{Written, RuleStands, TooLarge, ClassStands, ClassRead}
+use Rattle.syntax.specs.Whole.{Written, RuleJudged, TooLarge, TextRefused, RefusedWithin, ClassJudged, ClassRead}
 use Rattle.syntax.specs.Parsing.{Sequence, Refused}
 use Rattle.syntax.specs.Ended.{RuleRead, TextStuck, RuleStuck}
 use Rattle.syntax.proofs.Reading.{Sees, terms-see, places-see}
@@ -86,21 +88,19 @@ rule-written {text} {g = g} l R =
     (S.reads.way Context.whole (omega arith) ∙ accepts x (terms text g.to) (ap (map (λ (p : Placed). p.token)) R.end))
     (ap (λ z. Text.rule z.tree) S.reads.noted)
 
-pub rule-stands : {text : List ℕ} {base : ℕ} {xs ys : List Node} {us vs : List Span} {g : Got} → Lexes text (left text 0) → (R : RuleRead text base xs ys us vs g) → BodyWithin [] R.sequence.parsed.tree
-    → RuleStands text base ys (record { root = g.root; nodes = g.nodes })
-rule-stands l R h =
+-- the rule stands, and whether it is within the limits is known by what was measured of it
+pub rule-judged : {text : List ℕ} {base : ℕ} {xs ys : List Node} {us vs : List Span} {g : Got} (w : Bool) → Lexes text (left text 0) → (R : RuleRead text base xs ys us vs g) → length us ≡ 16
+    → Decides w ((0 ≤ 4) × (g.size.small ≡ true) × (g.size.depth ≤ 16) × (g.names ≤ 16)) → RuleJudged text base ys (record { rule = record { root = g.root; nodes = g.nodes }; within = w })
+rule-judged w l R h d =
     let S = R.sequence.parsed in
-    record { tree = S.tree; written = rule-written l R; within = h; counted = omega (arith, S.measured.counted); held = S.built.held }
+    let m = S.measured in
+    record {
+      stands = record { tree = S.tree; written = rule-written l R; counted = omega (arith, m.counted); held = S.built.held };
+      within = body-within w [] S.tree refl m.sized (m.named [] (no_names h)) d;
+    }
 
-pub rule-too-large : {text : List ℕ} {base : ℕ} {xs ys : List Node} {us vs : List Span} {g : Got} → Lexes text (left text 0) → (R : RuleRead text base xs ys us vs g) → (BodyWithin [] R.sequence.parsed.tree → ⊥) → TooLarge Kind.rule text
-rule-too-large l R h = record { tree = Text.rule R.sequence.parsed.tree; written = rule-written l R; over = h }
-
--- whether the rule is within the limits, by what was measured of it
-pub rule-judged : {text : List ℕ} {base : ℕ} {xs ys : List Node} {us vs : List Span} {g : Got} (w : Bool) (R : RuleRead text base xs ys us vs g) → length us ≡ 16
-    → Decides w ((0 ≤ 4) × (g.size.small ≡ true) × (g.size.depth ≤ 16) × (g.names ≤ 16)) → Decides w (BodyWithin [] R.sequence.parsed.tree)
-rule-judged w R h d =
-    let m = R.sequence.parsed.measured in
-    body-within w [] R.sequence.parsed.tree refl m.sized (m.named [] (no_names h)) d
+pub rule-too-large : {text : List ℕ} {base : ℕ} {ys : List Node} {g : JudgedRule} → RuleJudged text base ys g → g.within ≡ false → TooLarge Kind.rule text
+rule-too-large {g = g} R h = record { tree = Text.rule R.stands.tree; written = R.stands.written; over = not_from_Decides g.within R.within h }
 
 stuck-some : (l : List ℕ) → Stuck l → 0 < length l
 stuck-some (b ∷ l) s = omega arith
@@ -117,19 +117,27 @@ stray-inside text p e =
     let d = length-drop p text in
     omega arith
 
-pub class-stands : {text : List ℕ} {base : ℕ} {ys : List Node} {rs : List Method} {g : Judged} → Lexes text (left text 0) → ClassRead text base ys rs g → g.within ≡ true → ClassStands text base ys rs g.class
-class-stands l R h =
+pub class-judged : {text : List ℕ} {base : ℕ} {ys : List Node} {rs : List Method} {g : Judged} → Lexes text (left text 0) → ClassRead text base ys rs g → ClassJudged text base ys rs g
+class-judged l R =
     record {
-      class = R.class;
-      written = written (Text.class R.class) l R.way R.noted;
-      within = R.within.0 h;
-      counted = R.counted;
-      many = R.many;
-      name = R.name;
-      parent = R.parent;
-      held = R.held;
+      stands = record {
+        class = R.class;
+        written = written (Text.class R.class) l R.way R.noted;
+        counted = R.counted;
+        many = R.many;
+        name = R.name;
+        parent = R.parent;
+        held = R.held;
+      };
+      within = R.within;
     }
 
-pub class-too-large : {text : List ℕ} {base : ℕ} {ys : List Node} {rs : List Method} {g : Judged} → Lexes text (left text 0) → ClassRead text base ys rs g → g.within ≡ false → TooLarge Kind.class text
-class-too-large {g = g} l R h =
-    record { tree = Text.class R.class; written = written (Text.class R.class) l R.way R.noted; over = not_from_Decides g.within R.within h }
+pub class-too-large : {text : List ℕ} {base : ℕ} {ys : List Node} {rs : List Method} {g : Judged} → ClassJudged text base ys rs g → g.within ≡ false → TooLarge Kind.class text
+class-too-large {g = g} R h = record { tree = Text.class R.stands.class; written = R.stands.written; over = not_from_Decides g.within R.within h }
+
+-- a text that is refused whatever the limits are is refused with them
+pub refused-within : (κ : Kind) (text : List ℕ) (f : Refusal) → TextRefused κ text f → RefusedWithin κ text f
+refused-within κ text TooLong h = h
+refused-within κ text (Stray p) h = h
+refused-within κ text (Unexpected p) h = h
+refused-within κ text OverLimit h = absurd h

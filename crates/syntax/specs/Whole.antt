@@ -12,6 +12,7 @@ use Rattle.nodes.specs.declared.node.Node.{Node}
 use Rattle.nodes.specs.declared.node.Method.{Method}
 use Rattle.nodes.specs.declared.node.Class.{Class}
 use Rattle.syntax.specs.declared.read.Judged.{Judged}
+use Rattle.syntax.specs.declared.read.JudgedRule.{JudgedRule}
 use Rattle.nodes.specs.declared.node.Rule.{Rule}
 use Rattle.nodes.specs.declared.refusal.Refusal.{Refusal}
 use Rattle.nodes.specs.declared.refusal.Refusal.TheVariants.{TooLong, Stray, Unexpected, OverLimit}
@@ -33,9 +34,18 @@ pub record Written (κ : Kind) (text : List ℕ) (t : Text ℕ) : Type 0 where
 pub record RuleStands (text : List ℕ) (base : ℕ) (nodes : List Node) (r : Rule) : Type 0 where
   pub tree : Expr ℕ
   pub written : Written Kind.rule text (Text.rule tree)
-  pub within : WithinLimits (Text.rule tree)
   pub counted : r.nodes ≡ text_nodes (Text.rule tree)
   pub held : r.nodes ≤ length nodes → (m : Memory) → Lies m text base → TreeAt m nodes r.root tree
+
+-- and it is within the limits
+pub record RuleWithin (text : List ℕ) (base : ℕ) (nodes : List Node) (r : Rule) : Type 0 where
+  pub stands : RuleStands text base nodes r
+  pub within : WithinLimits (Text.rule stands.tree)
+
+-- and it is known whether it is within the limits
+pub record RuleJudged (text : List ℕ) (base : ℕ) (nodes : List Node) (g : JudgedRule) : Type 0 where
+  pub stands : RuleStands text base nodes g.rule
+  pub within : Decides g.within (WithinLimits (Text.rule stands.tree))
 
 -- the text has no tokens
 abbrev pub Unlexed : List ℕ → Refusal → Type 0
@@ -44,29 +54,45 @@ Unlexed text (Stray p) = (length text ≤ text_limit) × (tokens text ≡ Tokens
 Unlexed text (Unexpected p) = ⊥
 Unlexed text OverLimit = ⊥
 
+-- the text is refused so
+abbrev pub TextRefused : Kind → List ℕ → Refusal → Type 0
+TextRefused κ text TooLong = Unlexed text TooLong
+TextRefused κ text (Stray p) = Unlexed text (Stray p)
+TextRefused κ text (Unexpected p) = Breaks κ text p
+TextRefused κ text OverLimit = ⊥
+
 -- the text has one tree, which is not within the limits
 pub record TooLarge (κ : Kind) (text : List ℕ) : Type 0 where
   pub tree : Text ℕ
   pub written : Written κ text tree
   pub over : WithinLimits tree → ⊥
 
--- the text is refused so
-abbrev pub TextRefused : Kind → List ℕ → Refusal → Type 0
-TextRefused κ text TooLong = Unlexed text TooLong
-TextRefused κ text (Stray p) = Unlexed text (Stray p)
-TextRefused κ text (Unexpected p) = Breaks κ text p
-TextRefused κ text OverLimit = TooLarge κ text
+-- the same, where a text that is over the limits is refused too
+abbrev pub RefusedWithin : Kind → List ℕ → Refusal → Type 0
+RefusedWithin κ text TooLong = TextRefused κ text TooLong
+RefusedWithin κ text (Stray p) = TextRefused κ text (Stray p)
+RefusedWithin κ text (Unexpected p) = TextRefused κ text (Unexpected p)
+RefusedWithin κ text OverLimit = TooLarge κ text
 
 -- the class that the text has: its names, and its methods in their order, if the tables have room for them
 pub record ClassStands (text : List ℕ) (base : ℕ) (nodes : List Node) (methods : List Method) (r : Class) : Type 0 where
   pub class : tree.Class ℕ
   pub written : Written Kind.class text (Text.class class)
-  pub within : WithinLimits (Text.class class)
   pub counted : r.nodes ≡ text_nodes (Text.class class)
   pub many : r.methods ≡ length class.methods
   pub name : (m : Memory) → Lies m text base → WordAt m r.name class.name
   pub parent : (m : Memory) → Lies m text base → WordAt m r.parent class.parent
   pub held : r.nodes ≤ length nodes → r.methods ≤ length methods → (m : Memory) → Lies m text base → MethodsAt m nodes r.nodes methods class.methods
+
+-- and it is within the limits
+pub record ClassWithin (text : List ℕ) (base : ℕ) (nodes : List Node) (methods : List Method) (r : Class) : Type 0 where
+  pub stands : ClassStands text base nodes methods r
+  pub within : WithinLimits (Text.class stands.class)
+
+-- and it is known whether it is within the limits
+pub record ClassJudged (text : List ℕ) (base : ℕ) (nodes : List Node) (methods : List Method) (g : Judged) : Type 0 where
+  pub stands : ClassStands text base nodes methods g.class
+  pub within : Decides g.within (WithinLimits (Text.class stands.class))
 
 -- the same, as the machine reads it, with what is measured of it
 pub record ClassRead (text : List ℕ) (base : ℕ) (nodes : List Node) (methods : List Method) (g : Judged) : Type 0 where

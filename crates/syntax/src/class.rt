@@ -8,21 +8,21 @@ ghost use Rattle.syntax.specs.Sight.{head_sort};
 ghost use Rattle.nodes.specs.Methods.{no_span};
 ghost use Rattle.syntax.specs.Classes.{ParametersRead, ParametersRefused, MethodRead, MethodRefused, MembersRead, MembersRefused, Adds, Keeps};
 ghost use Rattle.syntax.specs.Ended.{TextStuck};
-ghost use Rattle.syntax.specs.Whole.{TextRefused, ClassStands, ClassRead};
+ghost use Rattle.syntax.specs.Whole.{TextRefused, RefusedWithin, ClassStands, ClassWithin, ClassJudged, ClassRead};
 
 use crate::expression::sequence;
-use crate::limits::{ARGUMENTS, within};
+use crate::limits::within;
 use crate::names::learn;
 use crate::read::{Defined, Judged, Listed, Members, Stuck};
 use crate::rule::check;
 use crate::sight::{Sight, Sort, after, expect, look, name};
 use crate::table::span;
 use lexer::token::{Keyword, Symbol};
-use nodes::node::{Class, Method, Node, Parameters};
+use nodes::node::{ARGUMENTS, Class, Method, Node, Parameters};
 use nodes::refusal::Refusal;
 use text::span::{Space, Span};
 
-fn no_span() -> Span
+pub fn no_span() -> Span
     ensures { result ≡ no_span }
 {
     Span {
@@ -48,7 +48,6 @@ fn no_parameters(to: u16) -> Listed
 
 // One more parameter; only the first four are kept.
 fn add(text: &[u8], base: u16, names: &mut [Span], listed: Listed, sight: Sight) -> Listed
-    requires short { length text.now ≤ 4096 }
     requires inside { (sight.from ≤ sight.to) × (sight.to ≤ length text.now) }
     requires few { listed.parameters.count < sight.to }
     ensures one_more { Adds text.now base names.old names.new listed sight.from sight.to result }
@@ -58,7 +57,8 @@ fn add(text: &[u8], base: u16, names: &mut [Span], listed: Listed, sight: Sight)
     if at < ARGUMENTS {
         spans[at as usize] = span(base, sight.from, sight.to);
     }
-    let known = learn(text, names, listed.names, sight.from, sight.to);
+    let own = span(0, sight.from, sight.to);
+    let known = learn(text, names, listed.names, own);
     Listed {
         to: sight.to,
         parameters: Parameters {
@@ -202,7 +202,25 @@ fn whole(
     }
 }
 
-// The class that the text is, in tables of nodes and methods whose names are spans of a memory that has the text at `base`; or its refusal.
+// The class that the text is, with whether it is within the limits; or its refusal.
+fn judged(
+    text: &[u8],
+    base: u16,
+    nodes: &mut [Node],
+    methods: &mut [Method],
+) -> Result<Judged, Refusal>
+    ensures the_one_tree_or_the_refusal { MatchResult result (λ g. ClassJudged text.now base nodes.new methods.new g) (λ f. TextRefused Kind.class text.now f) }
+{
+    check(text)?;
+    let none = no_span();
+    let mut names = [none; 16];
+    match whole(text, base, nodes, methods, &mut names) {
+        Ok(read) => Ok(read),
+        Err(stuck) => Err(Refusal::Unexpected(stuck.0)),
+    }
+}
+
+// The class that the text is, in tables of nodes and methods whose names are spans of a memory that has the text at `base`; or its refusal. The limits are not asked.
 pub fn parse_class(
     text: &[u8],
     base: u16,
@@ -211,12 +229,24 @@ pub fn parse_class(
 ) -> Result<Class, Refusal>
     ensures the_one_tree_or_the_refusal { MatchResult result (λ class. ClassStands text.now base nodes.new methods.new class) (λ f. TextRefused Kind.class text.now f) }
 {
-    check(text)?;
-    let none = no_span();
-    let mut names = [none; 16];
-    match whole(text, base, nodes, methods, &mut names) {
+    match judged(text, base, nodes, methods) {
+        Ok(read) => Ok(read.class),
+        Err(refusal) => Err(refusal),
+    }
+}
+
+// The same, where a class that is over the limits is refused.
+pub fn judge_class(
+    text: &[u8],
+    base: u16,
+    nodes: &mut [Node],
+    methods: &mut [Method],
+) -> Result<Class, Refusal>
+    ensures the_one_tree_within_the_limits_or_the_refusal { MatchResult result (λ class. ClassWithin text.now base nodes.new methods.new class) (λ f. RefusedWithin Kind.class text.now f) }
+{
+    match judged(text, base, nodes, methods) {
         Ok(read) if read.within => Ok(read.class),
         Ok(_) => Err(Refusal::OverLimit),
-        Err(stuck) => Err(Refusal::Unexpected(stuck.0)),
+        Err(refusal) => Err(refusal),
     }
 }

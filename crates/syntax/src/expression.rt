@@ -11,14 +11,14 @@ ghost use Rattle.syntax.specs.Parsing.{Writes, NoWrite, written_form, Parsed, Re
 use crate::leaves::{field, integer, local, string};
 use crate::read::{Given, Got, Size, Stuck, Target};
 use crate::sight::{Sight, Sort, after, expect, look, name, target_ahead};
-use crate::table::{closed, leaf, learn_target, no_arguments, put, span, with, written};
+use crate::table::{closed, leaf, learn_target, put, span, with, written};
 use lexer::token::{Keyword, Symbol};
-use nodes::node::{Form, Node};
+use nodes::node::{Arguments, Form, Node};
 use text::span::Span;
 
 // Items parted by `;`.
 #[cycle(arguments_conditional_creation_item_keyed_operand_primary_repetition_sequence_test)]
-pub(crate) fn sequence(
+pub fn sequence(
     text: &[u8],
     base: u16,
     at: u16,
@@ -338,7 +338,7 @@ fn arguments(
         to: at,
         nodes: n,
         names: m,
-        arguments: no_arguments(),
+        arguments: Arguments::none(),
         size: Size::new(0, true),
     };
     if let Some(to) = after(text, at, Sort::Sign(Symbol::CloseParen)) {

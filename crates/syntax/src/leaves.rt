@@ -15,7 +15,7 @@ use nodes::node::{Form, Node};
 use text::span::Span;
 
 // A local, read.
-pub(crate) fn local(
+pub fn local(
     text: &[u8],
     base: u16,
     at: u16,
@@ -25,19 +25,19 @@ pub(crate) fn local(
     n: u16,
     m: u8,
 ) -> Got
-    requires short { length text.now ≤ 4096 }
     requires few { n ≤ at }
     requires bounds { (at ≤ sight.from) × (sight.from < sight.to) × (sight.to ≤ length text.now) }
     requires begins { left text.now at ≡ shown text.now sort.Name sight.from sight.to }
     ensures moves { Moves text.now at n result }
     ensures reads { Parsed 1 text.now base at nodes.old nodes.new names.old names.new n m result }
 {
-    let known = learn(text, names, m, sight.from, sight.to);
+    let own = span(0, sight.from, sight.to);
+    let known = learn(text, names, m, own);
     let name = span(base, sight.from, sight.to);
     leaf(nodes, n, known, sight, Form::Local(name))
 }
 
-pub(crate) fn integer(
+pub fn integer(
     text: &[u8],
     base: u16,
     at: u16,
@@ -62,7 +62,7 @@ pub(crate) fn integer(
 }
 
 // A field, read.
-pub(crate) fn field(
+pub fn field(
     text: &[u8],
     base: u16,
     at: u16,
@@ -83,7 +83,7 @@ pub(crate) fn field(
 }
 
 // A string, without its quotes.
-pub(crate) fn string(
+pub fn string(
     text: &[u8],
     base: u16,
     at: u16,

@@ -2,15 +2,13 @@
 ghost use Rattle.std.specs.Prelude.{◌≡◌, ◌≤◌, true, Decides};
 
 use crate::read::Size;
+use nodes::node::ARGUMENTS;
 
 // The bytes of a text.
 pub(crate) const TEXT: usize = 4096;
 
 // The bytes of a string literal, without its quotes.
 pub(crate) const STRING: u16 = 255;
-
-// The arguments of a call, and the parameters of a method.
-pub(crate) const ARGUMENTS: u16 = 4;
 
 // The distinct names of parameters and locals in a body.
 pub(crate) const NAMES: u8 = 16;

@@ -57,7 +57,7 @@ fn negative(n: u64) -> Number
 }
 
 // The value of digits with a `-` before them or without.
-pub(crate) fn value(word: &[u8]) -> Number
+pub fn value(word: &[u8]) -> Number
     ensures judged { Decides result.fits (Fits word.now) }
     ensures read { Fits word.now → result.value ≡ value_of word.now }
 {

@@ -1,5 +1,5 @@
 // What the parser's functions hand up of what they read.
-use nodes::node::{Arguments, Class, Method, Parameters};
+use nodes::node::{Arguments, Class, Method, Parameters, Rule};
 
 // What the limits ask of an expression: its depth, with 17 for all that is deeper than 16, and whether its literals and its lists of arguments are small enough.
 #[derive(Clone, Copy)]
@@ -65,6 +65,13 @@ pub struct Members {
     pub to: u16,
     pub nodes: u16,
     pub count: u16,
+    pub within: bool,
+}
+
+// A rule that was read, and whether it is within the limits.
+#[derive(Clone, Copy)]
+pub struct JudgedRule {
+    pub rule: Rule,
     pub within: bool,
 }
 

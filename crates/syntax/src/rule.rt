@@ -3,13 +3,13 @@ ghost use Rattle.std.specs.Prelude.{◌≡◌, ◌≤◌, length, MatchResult};
 ghost use Rattle.grammar.specs.Grammar.{Kind};
 ghost use Rattle.syntax.specs.Left.{left};
 ghost use Rattle.syntax.specs.Breaks.{Lexes};
-ghost use Rattle.syntax.specs.Whole.{Unlexed, RuleStands, TextRefused};
+ghost use Rattle.syntax.specs.Whole.{Unlexed, RuleStands, RuleWithin, RuleJudged, TextRefused, RefusedWithin};
 ghost use Rattle.syntax.specs.Parsing.{Refused};
 ghost use Rattle.syntax.specs.Ended.{RuleRead, RuleStuck};
 
 use crate::expression::sequence;
 use crate::limits::{TEXT, within};
-use crate::read::{Got, Stuck};
+use crate::read::{Got, JudgedRule, Stuck};
 use crate::sight::look;
 use lexer::check_text;
 use nodes::node::{Node, Rule};
@@ -17,7 +17,7 @@ use nodes::refusal::Refusal;
 use text::span::{Space, Span};
 
 // Is the text short enough, and does every byte but a blank belong to a token?
-pub(crate) fn check(text: &[u8]) -> Result<(), Refusal>
+pub fn check(text: &[u8]) -> Result<(), Refusal>
     ensures lexed { MatchResult result (λ _. Lexes text.now (left text.now 0)) (λ f. Unlexed text.now f) }
 {
     if text.len() > TEXT {
@@ -41,9 +41,9 @@ fn whole(text: &[u8], base: u16, nodes: &mut [Node], names: &mut [Span]) -> Resu
     }
 }
 
-// The rule that the text is, in a table of nodes whose names are spans of a memory that has the text at `base`; or its refusal.
-pub fn parse_rule(text: &[u8], base: u16, nodes: &mut [Node]) -> Result<Rule, Refusal>
-    ensures the_one_tree_or_the_refusal { MatchResult result (λ rule. RuleStands text.now base nodes.new rule) (λ f. TextRefused Kind.rule text.now f) }
+// The rule that the text is, with whether it is within the limits; or its refusal.
+fn judged(text: &[u8], base: u16, nodes: &mut [Node]) -> Result<JudgedRule, Refusal>
+    ensures the_one_tree_or_the_refusal { MatchResult result (λ g. RuleJudged text.now base nodes.new g) (λ f. TextRefused Kind.rule text.now f) }
 {
     check(text)?;
     let mut names = [Span {
@@ -52,11 +52,34 @@ pub fn parse_rule(text: &[u8], base: u16, nodes: &mut [Node]) -> Result<Rule, Re
         len: 0,
     }; 16];
     match whole(text, base, nodes, &mut names) {
-        Ok(g) if within(0, g.size, g.names) => Ok(Rule {
-            root: g.root,
-            nodes: g.nodes,
+        Ok(g) => Ok(JudgedRule {
+            rule: Rule {
+                root: g.root,
+                nodes: g.nodes,
+            },
+            within: within(0, g.size, g.names),
         }),
-        Ok(_) => Err(Refusal::OverLimit),
         Err(stuck) => Err(Refusal::Unexpected(stuck.0)),
+    }
+}
+
+// The rule that the text is, in a table of nodes whose names are spans of a memory that has the text at `base`; or its refusal. The limits are not asked.
+pub fn parse_rule(text: &[u8], base: u16, nodes: &mut [Node]) -> Result<Rule, Refusal>
+    ensures the_one_tree_or_the_refusal { MatchResult result (λ rule. RuleStands text.now base nodes.new rule) (λ f. TextRefused Kind.rule text.now f) }
+{
+    match judged(text, base, nodes) {
+        Ok(read) => Ok(read.rule),
+        Err(refusal) => Err(refusal),
+    }
+}
+
+// The same, where a rule that is over the limits is refused.
+pub fn judge_rule(text: &[u8], base: u16, nodes: &mut [Node]) -> Result<Rule, Refusal>
+    ensures the_one_tree_within_the_limits_or_the_refusal { MatchResult result (λ rule. RuleWithin text.now base nodes.new rule) (λ f. RefusedWithin Kind.rule text.now f) }
+{
+    match judged(text, base, nodes) {
+        Ok(read) if read.within => Ok(read.rule),
+        Ok(_) => Err(Refusal::OverLimit),
+        Err(refusal) => Err(refusal),
     }
 }

@@ -43,7 +43,7 @@ fn sort_of(token: Token<'_>) -> Sort
 }
 
 // The next token from `at` on; none at the text's end.
-pub(crate) fn look(text: &[u8], at: u16) -> Option<Sight>
+pub fn look(text: &[u8], at: u16) -> Option<Sight>
     requires short { length text.now ≤ 4096 }
     ensures shows { MatchOption result (left text.now at ≡ []) (λ s. left text.now at ≡ shown text.now s.sort s.from s.to) }
     ensures inside { IfSome result (λ s. (at ≤ s.from) × (s.from < s.to) × (s.to ≤ length text.now)) }
@@ -63,7 +63,7 @@ pub(crate) fn look(text: &[u8], at: u16) -> Option<Sight>
 }
 
 // Where the next token ends, if it is of this sort.
-pub(crate) fn after(text: &[u8], at: u16, wanted: Sort) -> Option<u16>
+pub fn after(text: &[u8], at: u16, wanted: Sort) -> Option<u16>
     requires short { length text.now ≤ 4096 }
     ensures found { MatchOption result (head_sort (terms text.now at) ≢ Some wanted) (λ to. (from : ℕ) × (left text.now at ≡ shown text.now wanted from to)) }
     ensures inside { IfSome result (λ to. (at < to) × (to ≤ length text.now)) }
@@ -75,7 +75,7 @@ pub(crate) fn after(text: &[u8], at: u16, wanted: Sort) -> Option<u16>
 }
 
 // The place of the next token; at the text's end its length.
-pub(crate) fn place(text: &[u8], at: u16) -> u16
+pub fn place(text: &[u8], at: u16) -> u16
     requires short { length text.now ≤ 4096 }
     ensures of_the_next { result ≡ first (length text.now) (places text.now at) }
 {
@@ -86,7 +86,7 @@ pub(crate) fn place(text: &[u8], at: u16) -> u16
 }
 
 // Where the token that has to come ends.
-pub(crate) fn expect(text: &[u8], at: u16, wanted: Sort) -> Result<u16, Stuck>
+pub fn expect(text: &[u8], at: u16, wanted: Sort) -> Result<u16, Stuck>
     requires short { length text.now ≤ 4096 }
     ensures found { MatchResult result (λ to. (from : ℕ) × (left text.now at ≡ shown text.now wanted from to)) (λ s. (s.0 ≡ first (length text.now) (places text.now at)) × (head_sort (terms text.now at) ≢ Some wanted)) }
     ensures inside { IfOk result (λ to. (at < to) × (to ≤ length text.now)) }
@@ -98,7 +98,7 @@ pub(crate) fn expect(text: &[u8], at: u16, wanted: Sort) -> Result<u16, Stuck>
 }
 
 // The name that has to come.
-pub(crate) fn name(text: &[u8], at: u16) -> Result<Sight, Stuck>
+pub fn name(text: &[u8], at: u16) -> Result<Sight, Stuck>
     requires short { length text.now ≤ 4096 }
     ensures found { MatchResult result (λ s. left text.now at ≡ shown text.now Name s.from s.to) (λ s. (s.0 ≡ first (length text.now) (places text.now at)) × (head_sort (terms text.now at) ≢ Some Name)) }
     ensures inside { IfOk result (λ s. (at ≤ s.from) × (s.from < s.to) × (s.to ≤ length text.now)) }
@@ -113,7 +113,7 @@ pub(crate) fn name(text: &[u8], at: u16) -> Result<Sight, Stuck>
 }
 
 // A target and `=` behind it, if they come next.
-pub(crate) fn target_ahead(text: &[u8], at: u16) -> Option<Target>
+pub fn target_ahead(text: &[u8], at: u16) -> Option<Target>
     requires short { length text.now ≤ 4096 }
     ensures found { MatchOption result (NoWrite (terms text.now at)) (λ t. Writes text.now at t) }
     ensures inside { IfSome result (λ t. (at ≤ t.from) × (t.from < t.to) × (t.to < t.value) × (t.value ≤ length text.now)) }

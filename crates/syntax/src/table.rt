@@ -4,15 +4,15 @@ ghost use Rattle.nodes.specs.Trees.{span_of};
 ghost use Rattle.syntax.specs.Sizes.{around, side_by_side};
 ghost use Rattle.syntax.specs.Parsing.{meant, written_form, LearnsTarget, Put, With, Closed};
 
-use crate::limits::{ARGUMENTS, DEPTH};
+use crate::limits::DEPTH;
 use crate::names::learn;
 use crate::read::{Given, Got, Size, Target};
 use crate::sight::Sight;
-use nodes::node::{Arguments, Form, Node};
+use nodes::node::{ARGUMENTS, Form, Node};
 use text::span::{Space, Span};
 
 // The bytes `from` up to `to` of a text that begins at `base`.
-pub(crate) fn span(base: u16, from: u16, to: u16) -> Span
+pub fn span(base: u16, from: u16, to: u16) -> Span
     requires { from ≤ to }
     ensures where_they_lie { result ≡ span_of base from to }
 {
@@ -24,7 +24,7 @@ pub(crate) fn span(base: u16, from: u16, to: u16) -> Span
 }
 
 // Writes the node while there is room, and counts on.
-pub(crate) fn put(nodes: &mut [Node], n: u16, m: u8, node: Node, to: u16, size: Size) -> Got
+pub fn put(nodes: &mut [Node], n: u16, m: u8, node: Node, to: u16, size: Size) -> Got
     requires { n < to }
     ensures put { Put nodes.old nodes.new n m node to size result }
 {
@@ -58,41 +58,16 @@ pub(crate) fn leaf(nodes: &mut [Node], n: u16, m: u8, sight: Sight, form: Form) 
     put(nodes, n, m, node, sight.to, size)
 }
 
-pub(crate) fn no_arguments() -> Arguments
-    ensures { result ≡ record { count = 0; roots = 0 ∷ 0 ∷ 0 ∷ 0 ∷ [] } }
-{
-    Arguments {
-        count: 0,
-        roots: [0, 0, 0, 0],
-    }
-}
-
-// One more argument's root; only the first four are kept.
-fn with_root(arguments: Arguments, root: u16) -> Arguments
-    requires { arguments.count < 2 ^ 16 - 1 }
-    ensures counted { result.count ≡ arguments.count + 1 }
-    ensures kept { result.roots ≡ slice_set arguments.roots arguments.count root }
-{
-    let mut roots = arguments.roots;
-    if arguments.count < ARGUMENTS {
-        roots[arguments.count as usize] = root;
-    }
-    Arguments {
-        count: arguments.count + 1,
-        roots,
-    }
-}
-
 impl Size {
     // What has no part: one deep, or nothing.
-    pub(crate) fn new(depth: u8, small: bool) -> Size
+    pub fn new(depth: u8, small: bool) -> Size
         ensures { result ≡ record { depth = depth; small = small } }
     {
         Size { depth, small }
     }
 
     // Of what stands around it; 17 stands for all that is deeper than 16.
-    pub(crate) fn deeper(self) -> Size
+    pub fn deeper(self) -> Size
         ensures { result ≡ around self }
     {
         let depth = if self.depth > DEPTH {
@@ -107,7 +82,7 @@ impl Size {
     }
 
     // Of two parts side by side.
-    pub(crate) fn beside(self, other: Size) -> Size
+    pub fn beside(self, other: Size) -> Size
         ensures { result ≡ side_by_side self other }
     {
         let depth = if self.depth < other.depth {
@@ -123,7 +98,7 @@ impl Size {
 }
 
 // The form of a write.
-pub(crate) fn written(base: u16, target: Target, root: u16) -> Form
+pub fn written(base: u16, target: Target, root: u16) -> Form
     requires { target.from ≤ target.to }
     ensures by_its_target { result ≡ written_form target.field (span_of base target.from target.to) root }
 {
@@ -136,24 +111,24 @@ pub(crate) fn written(base: u16, target: Target, root: u16) -> Form
 }
 
 // How many names a body has once the target is written to: a field's is none.
-pub(crate) fn learn_target(text: &[u8], names: &mut [Span], m: u8, target: Target) -> u8
-    requires short { length text.now ≤ 4096 }
-    requires inside { (target.from ≤ target.to) × (target.to ≤ length text.now) }
-    ensures named_by_it { LearnsTarget text.now names.old names.new m (meant text.now target) result }
+pub fn learn_target(text: &[u8], names: &mut [Span], m: u8, target: Target) -> u8
+    requires { target.from ≤ target.to }
+    ensures named_by_it { target.to ≤ length text.now → LearnsTarget text.now names.old names.new m (meant text.now target) result }
 {
     if target.field {
         m
     } else {
-        learn(text, names, m, target.from, target.to)
+        let name = span(0, target.from, target.to);
+        learn(text, names, m, name)
     }
 }
 
 // One more argument.
-pub(crate) fn with(given: Given, e: Got) -> Given
+pub fn with(given: Given, e: Got) -> Given
     requires { given.arguments.count < e.to }
     ensures one_more { With given e result }
 {
-    let arguments = with_root(given.arguments, e.root);
+    let arguments = given.arguments.with(e.root);
     Given {
         to: e.to,
         nodes: e.nodes,
@@ -164,7 +139,7 @@ pub(crate) fn with(given: Given, e: Got) -> Given
 }
 
 // The arguments, all of them read up to their `)`.
-pub(crate) fn closed(given: Given, to: u16) -> Given
+pub fn closed(given: Given, to: u16) -> Given
     ensures as_given { Closed given to result }
 {
     let few = given.arguments.count <= ARGUMENTS;

@@ -3,8 +3,8 @@
 
 use nodes::node::{Form, Method, Node, Parameters};
 use nodes::refusal::Refusal;
-use syntax::class::parse_class;
-use syntax::rule::parse_rule;
+use syntax::class::judge_class;
+use syntax::rule::judge_rule;
 use text::span::{Space, Span};
 
 mod samples;
@@ -183,7 +183,7 @@ fn print_rule(rt: &HostRuntime, sample: &[u8]) -> anyhow::Result<()> {
     print!(rt; "rule [")?;
     print_bytes(rt, sample)?;
     print!(rt; "]")?;
-    match parse_rule(&text, 0, &mut nodes) {
+    match judge_rule(&text, 0, &mut nodes) {
         Ok(rule) => print_nodes(rt, &nodes, rule.nodes)?,
         Err(refusal) => print_refusal(rt, refusal)?,
     }
@@ -198,7 +198,7 @@ fn print_class(rt: &HostRuntime, sample: &[u8]) -> anyhow::Result<()> {
     print!(rt; "class [")?;
     print_bytes(rt, sample)?;
     print!(rt; "]")?;
-    match parse_class(&text, 0, &mut nodes, &mut methods) {
+    match judge_class(&text, 0, &mut nodes, &mut methods) {
         Ok(class) => {
             print_nodes(rt, &nodes, class.nodes)?;
             print_methods(rt, &methods, class.methods)?;

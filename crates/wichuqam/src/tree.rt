@@ -2,8 +2,8 @@
 use nodes::node::{Form, Method, Node, Parameters};
 use nodes::refusal::Refusal;
 use std::io::{Read, Write};
-use syntax::class::parse_class;
-use syntax::rule::parse_rule;
+use syntax::class::judge_class;
+use syntax::rule::judge_rule;
 use text::span::{Space, Span};
 
 // A text within its limit has fewer nodes, and fewer methods, than bytes.
@@ -178,7 +178,7 @@ fn no_method() -> Method {
 
 fn list_rule(rt: &HostRuntime, text: &[u8]) -> anyhow::Result<()> {
     let mut nodes = [no_node(); ROOM];
-    match parse_rule(text, 0, &mut nodes) {
+    match judge_rule(text, 0, &mut nodes) {
         Ok(rule) => print_nodes(rt, text, &nodes, rule.nodes),
         Err(refusal) => print_refusal(rt, refusal),
     }
@@ -187,7 +187,7 @@ fn list_rule(rt: &HostRuntime, text: &[u8]) -> anyhow::Result<()> {
 fn list_class(rt: &HostRuntime, text: &[u8]) -> anyhow::Result<()> {
     let mut nodes = [no_node(); ROOM];
     let mut methods = [no_method(); ROOM];
-    match parse_class(text, 0, &mut nodes, &mut methods) {
+    match judge_class(text, 0, &mut nodes, &mut methods) {
         Ok(class) => {
             print_nodes(rt, text, &nodes, class.nodes)?;
             for i in 0..ROOM {

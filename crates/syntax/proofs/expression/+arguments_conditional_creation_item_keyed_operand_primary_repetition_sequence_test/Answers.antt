@@ -51,7 +51,7 @@ item-returns-in_ok-e-in-Some t c =
     let put = c.put.ensures.put in
     record {
       moves = set-moves i me put;
-      reads = set-made c.in-Some.ensures.found c.in_ok-e-in-Some.ensures.reads put c.written.ensures.by_its_target me (omega arith) (omega arith) c.deeper.ensures c.learn_target-known.ensures.named_by_it;
+      reads = set-made c.in-Some.ensures.found c.in_ok-e-in-Some.ensures.reads put c.written.ensures.by_its_target me (omega arith) (omega arith) c.deeper.ensures (c.learn_target-known.ensures.named_by_it (omega arith));
     }
 
 pub item-returns-in-None : goal.item-returns-in-None
@@ -259,10 +259,10 @@ pub arguments-returns-in-Some : goal.arguments-returns-in-Some
 arguments-returns-in-Some t c =
     let i = c.in-Some.ensures.inside in
     let d = c.closed.ensures.as_given in
-    let e = ap (λ z. z.count) (d.same ∙ c.no_arguments.ensures) in
+    let e = ap (λ z. z.count) (d.same ∙ c.none.ensures) in
     record {
-      moves = none_moves refl (ap (λ z. z.count) c.no_arguments.ensures) c.requires.few i d;
-      reads = none_made (record { is = c.in-Some.ensures.found.1 }) c.no_arguments.ensures d refl refl c.new.ensures;
+      moves = none_moves refl (ap (λ z. z.count) c.none.ensures) c.requires.few i d;
+      reads = none_made (record { is = c.in-Some.ensures.found.1 }) c.none.ensures d refl refl c.new.ensures;
     }
 
 pub arguments-returns-in_err-e : goal.arguments-returns-in_err-e
@@ -272,13 +272,13 @@ arguments-returns-in_err-e t c =
 
 pub arguments-returns-in_err-e-2 : goal.arguments-returns-in_err-e-2
 arguments-returns-in_err-e-2 t c =
-    let A = c.loop-to.invariant.1 _ _ (first_made c.in_default.ensures.found c.no_arguments.ensures c.in_ok-e.ensures.reads c.with-given.ensures.one_more c.in_ok-e.ensures.moves c.new.ensures) in
+    let A = c.loop-to.invariant.1 _ _ (first_made c.in_default.ensures.found c.none.ensures c.in_ok-e.ensures.reads c.with-given.ensures.one_more c.in_ok-e.ensures.moves c.new.ensures) in
     let p = err_from_is_err_and c.from_residual-in_err-e-2.result c.from_residual-in_err-e-2.ensures.1 in
     rw (p.1, p.2) (record { moves = tt; reads = next-lost A (record { is = c.in-Some-after.ensures.found.1 }) c.in_err-e-2.ensures.reads })
 
 pub arguments-returns-in_err-to : goal.arguments-returns-in_err-to
 arguments-returns-in_err-to t c =
-    let A = c.loop-to.invariant.1 _ _ (first_made c.in_default.ensures.found c.no_arguments.ensures c.in_ok-e.ensures.reads c.with-given.ensures.one_more c.in_ok-e.ensures.moves c.new.ensures) in
+    let A = c.loop-to.invariant.1 _ _ (first_made c.in_default.ensures.found c.none.ensures c.in_ok-e.ensures.reads c.with-given.ensures.one_more c.in_ok-e.ensures.moves c.new.ensures) in
     let p = err_from_is_err_and c.from_residual-in_err-to.result c.from_residual-in_err-to.ensures.1 in
     rw (p.1, p.2) (record { moves = tt; reads = close-lost A c.in_default-after.ensures.found c.in_err-to.ensures.found })
 
@@ -294,7 +294,7 @@ arguments-loop-to-preserved t c =
 
 pub arguments-returns : goal.arguments-returns
 arguments-returns t c =
-    let A = c.loop-to.invariant.1 _ _ (first_made c.in_default.ensures.found c.no_arguments.ensures c.in_ok-e.ensures.reads c.with-given.ensures.one_more c.in_ok-e.ensures.moves c.new.ensures) in
+    let A = c.loop-to.invariant.1 _ _ (first_made c.in_default.ensures.found c.none.ensures c.in_ok-e.ensures.reads c.with-given.ensures.one_more c.in_ok-e.ensures.moves c.new.ensures) in
     let mg = c.loop-to.invariant.0 in
     let i = c.in_ok-to.ensures.inside in
     let d = c.closed-2.ensures.as_given in

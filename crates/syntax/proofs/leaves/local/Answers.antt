@@ -2,6 +2,7 @@ use Rattle.std.proofs.Common.{◌≡◌, ℕ, refl, ap, arith}
 use Rattle.grammar.specs.Tree.{Expr}
 use Rattle.syntax.specs.Sight.{slice}
 use Rattle.syntax.specs.Parsing.{target_token}
+use Rattle.syntax.proofs.Naming.{learnt-there}
 use Rattle.syntax.proofs.Sizes.{plain-sized}
 use Rattle.syntax.proofs.Forms.{leaf-made, word-seen, some_same}
 use Rattle.syntax.proofs.leaves.local.Goals as goal
@@ -13,6 +14,6 @@ returns c =
     let p = c.leaf.ensures.put in
     record {
       moves = record { on = omega arith; inside = omega arith; few = omega arith; new = omega arith; root = omega arith };
-      reads = leaf-made (Expr.local s.from w) (record { is = c.requires.begins }) (omega arith) (λ k. refl) (λ ns. refl) (λ u i. ap target_token (some_same i)) refl p refl (plain-sized (Expr.local s.from w) refl refl tt (omega arith) (omega arith)) c.learn-known.ensures.one_more_if_new.learns
+      reads = leaf-made (Expr.local s.from w) (record { is = c.requires.begins }) (omega arith) (λ k. refl) (λ ns. refl) (λ u i. ap target_token (some_same i)) refl p refl (plain-sized (Expr.local s.from w) refl refl tt (omega arith) (omega arith)) (learnt-there c.span-own.result s.from s.to (omega arith) (omega arith) (omega arith) c.span-own.ensures.where_they_lie c.learn-known.ensures.one_more_if_new).learns
           (λ mem lies is. (_, is, word-seen c.args.base s.from s.to c.span-name.ensures.where_they_lie (omega arith) (omega arith) mem lies));
     }
