@@ -1,13 +1,13 @@
 -- What the machine's own functions leave, as their definitions say.
-use Rattle.std.proofs.Common.{◌≡◌, ℕ, suc, ◌+◌, ◌-◌, ◌<◌, ◌≤◌, Bool, true, false, ◌&&◌, ltb, leb, List, ◌++◌, length, ℤ, pos, Ok, Err, Result, sym, refl, ap, ◌∙◌, arith}
+use Rattle.std.proofs.Common.{◌≡◌, ℕ, ◌+◌, ◌≤◌, Bool, true, false, ◌&&◌, ltb, leb, List, ◌++◌, length, ℤ, pos, Ok, Err, sym, refl, ap, ◌∙◌, arith}
 use Rattle.std.proofs.lemmas.Bool.{leb-true}
 use Rattle.std.specs.Fmt.{signed_decimal}
 use Rattle.text.specs.declared.span.Span.{Span}
-use Rattle.text.specs.Memory.{Memory, bytes_of}
-use Rattle.text.specs.Meanings.{length-bytes_of, grown-none}
+use Rattle.text.specs.Memory.{Memory}
+use Rattle.text.specs.Meanings.{grown-none}
 use Rattle.store.specs.declared.value.Value.{Value}
 use Rattle.store.specs.declared.value.Value.TheVariants.{Int, Str}
-use Rattle.store.specs.Val.{Val, meaning}
+use Rattle.store.specs.Val.{Val}
 use Rattle.machine.specs.declared.builtin.Builtin.TheVariants.{PrintValue, ToS, Concat, Length}
 use Rattle.machine.specs.declared.ending.Ending.{Ending}
 use Rattle.machine.specs.declared.ending.Ending.TheVariants.{NoTextSpace, NoOutputSpace}
@@ -19,7 +19,7 @@ use Rattle.machine.specs.State.{Registers}
 use Rattle.effects.specs.declared.spent.Spent.{Spent}
 use Rattle.effects.specs.Spending.{effects_of, Makes}
 use Rattle.effects.proofs.Laying.{laid-grown, laid-means}
-use Rattle.calls.specs.Applying.{arguments_at, only_at, both_at, with_made, Shows, Spells, Answers, Applied, beside, apply_at}
+use Rattle.calls.specs.Applying.{arguments_at, only_at, both_at, with_made, Shows, Spells, Answers, apply_at}
 
 -- what passes a test passes it, and goes on
 passes : {A : Type 0} (e : Ending) (b : Bool) (x : Outcome A) (y : A) → unless e b x ≡ Ok y → (b ≡ true) × (x ≡ Ok y)

@@ -1,17 +1,15 @@
 -- A call does what its step says.
-use Rattle.std.proofs.Common.{◌≡◌, ℕ, suc, ◌+◌, ◌*◌, ◌<◌, ◌≤◌, List, length, set, Some, None, Ok, Err, Option, Result, sym, refl, ap, ◌∙◌, subst, add-one, arith}
-use Rattle.text.specs.Memory.{Memory}
+use Rattle.std.proofs.Common.{◌≡◌, ℕ, suc, ◌+◌, ◌*◌, ◌<◌, ◌≤◌, List, length, set, Some, None, Ok, Err, Option, Result, sym, refl, ap, ◌∙◌, subst, arith}
 use Rattle.text.specs.Meanings.{grown-none}
 use Rattle.store.specs.declared.value.Value.{Value}
-use Rattle.store.specs.Val.{Val, meaning}
+use Rattle.store.specs.Val.{meaning}
 use Rattle.store.specs.Tables.{Table, Tables}
 use Rattle.machine.specs.declared.builtin.Builtin.{Builtin}
 use Rattle.machine.specs.declared.ending.Ending.{Ending}
 use Rattle.machine.specs.Limits.{registers_per_frame}
 use Rattle.machine.specs.Outcome.{Outcome, ◌>>=◌}
-use Rattle.machine.specs.Effects.{Effects}
 use Rattle.machine.specs.Builtin.{builtin_of, apply}
-use Rattle.machine.specs.State.{write, World, with_effects, State, at}
+use Rattle.machine.specs.State.{write, with_effects, State, at}
 use Rattle.machine.specs.Operands.{function_at}
 use Rattle.effects.specs.Spending.{effects_of}
 use Rattle.operands.specs.Slots.{registers_of}

@@ -1,6 +1,6 @@
 -- What a call passes, and the frame that it enters.
-use Rattle.std.proofs.Common.{◌≡◌, ℕ, zero, suc, ◌+◌, ◌-◌, ◌*◌, ◌<◌, ◌≤◌, Bool, true, false, ltb, ◌⊎◌, List, [], ◌∷◌, ◌++◌, map, length, get_or, take, drop, set, replicate, is_some, Some, None, Ok, Err, Option, sym, refl, ap, ◌∙◌, subst, inl, inr, add-one, arith, rules}
-use Rattle.std.proofs.lemmas.List.{same_lists, places, drop_more, map-append, length-append, length-take-le, length-drop, length-take, take-take, drop-take, drop-drop, length-replicate, get_or_past, get_or-set_same, get_or-set_other, get_or_append_left, get_or-append_right, get_or-take, get_or-drop, get_or-replicate}
+use Rattle.std.proofs.Common.{◌≡◌, ℕ, zero, suc, ◌+◌, ◌-◌, ◌*◌, ◌<◌, ◌≤◌, true, false, ◌⊎◌, List, [], ◌∷◌, ◌++◌, map, length, get_or, take, drop, set, replicate, is_some, Some, None, Ok, Err, Option, sym, refl, ap, ◌∙◌, subst, inl, inr, add-one, arith}
+use Rattle.std.proofs.lemmas.List.{drop_more, map-append, length-append, length-take-le, length-drop, take-take, drop-take, drop-drop, length-replicate, get_or_past, get_or-set_same, get_or-set_other, get_or_append_left, get_or-append_right, get_or-take, get_or-drop}
 use Rattle.std.proofs.lemmas.Bool.{cases_eq, cases_lt, lt-ltb, le-ltb}
 use Rattle.text.specs.Memory.{Memory}
 use Rattle.store.specs.declared.value.Value.{Value}
@@ -9,7 +9,7 @@ use Rattle.store.specs.Answers.{meant}
 use Rattle.machine.specs.declared.ending.Ending.{Ending}
 use Rattle.machine.specs.declared.ending.Ending.TheVariants.{Stuck, NoFrameSpace}
 use Rattle.machine.specs.Limits.{registers_per_frame, most_frames}
-use Rattle.machine.specs.Outcome.{Outcome, ◌>>=◌, need, unless}
+use Rattle.machine.specs.Outcome.{Outcome, ◌>>=◌, need}
 use Rattle.machine.specs.State.{Registers, read, passed, World, State, at}
 use Rattle.machine.specs.State as machine
 use Rattle.machine.specs.Operands.{value_at, values_from}
@@ -21,7 +21,7 @@ use Rattle.calls.specs.Applying.{arguments_at}
 use Rattle.calls.specs.Passing.{laid, handed}
 use Rattle.calls.specs.Frames.{window, no_frame, callers_of, state_of, LiveWithin, enter_from}
 use Rattle.calls.proofs.Laying.{laid-before, laid_more, take-laid}
-use Rattle.calls.proofs.Windows.{window-kept, window-put, length-window, callers-kept, length-callers}
+use Rattle.calls.proofs.Windows.{window-kept, window-put, callers-kept, length-callers}
 
 -- the first i of n registers are copied, and one more
 pub copied_more : (xs : List (Option Value)) (from to n i : ℕ) → from + n ≤ to → to + n ≤ length xs → i < n → set (laid xs to (take i (take n (drop from xs)))) (to + i) (get_or (laid xs to (take i (take n (drop from xs)))) (from + i) None) ≡ laid xs to (take (i + 1) (take n (drop from xs)))

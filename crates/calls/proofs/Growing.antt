@@ -1,9 +1,8 @@
 -- Registers and callers mean the same once more strings are made.
-use Rattle.std.proofs.Common.{◌≡◌, ℕ, zero, suc, ◌<◌, ◌≤◌, List, [], ◌∷◌, map, get_or, Some, None, Option, sym, refl, ap, ◌∙◌, arith}
+use Rattle.std.proofs.Common.{◌≡◌, ℕ, zero, suc, ◌<◌, ◌≤◌, List, [], ◌∷◌, get_or, Some, None, Option, refl, ap, arith}
 use Rattle.text.specs.Memory.{Memory}
 use Rattle.text.specs.Agree.{Grown}
 use Rattle.store.specs.declared.value.Value.{Value}
-use Rattle.store.specs.Val.{Val}
 use Rattle.store.specs.Answers.{meant}
 use Rattle.store.specs.ValuesLemmas.{meaning-grown}
 use Rattle.machine.specs.State as machine

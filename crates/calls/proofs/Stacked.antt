@@ -1,5 +1,5 @@
 -- A slice after a push onto the stack of its first items, and after a pop.
-use Rattle.std.proofs.Common.{◌≡◌, ℕ, suc, ◌+◌, ◌-◌, ◌<◌, ◌≤◌, List, [], ◌∷◌, ◌++◌, length, get_or, take, drop, set, Some, None, Ok, Err, Option, Result, sym, refl, ap, ◌∙◌, add-one, arith, MatchOption, MatchResult}
+use Rattle.std.proofs.Common.{◌≡◌, ℕ, suc, ◌-◌, ◌<◌, ◌≤◌, List, [], ◌∷◌, ◌++◌, length, get_or, take, drop, set, Some, None, Ok, Err, Option, Result, sym, ap, ◌∙◌, add-one, arith, MatchOption, MatchResult}
 use Rattle.std.proofs.lemmas.List.{append_assoc, take-append-drop, drop-drop, set_split, length-take-le, length_push, get_or_push, get_or-take}
 use Rattle.stack.specs.declared.Stack.{Stack}
 use Rattle.stack.specs.Held.{held, beyond, room}

@@ -1,14 +1,12 @@
 -- The registers of one frame among those of all, and the callers that they stand for.
-use Rattle.std.proofs.Common.{◌≡◌, ℕ, zero, suc, ◌+◌, ◌-◌, ◌*◌, ◌<◌, ◌≤◌, List, [], ◌∷◌, ◌++◌, length, get_or, take, drop, set, Option, sym, refl, ap, ◌∙◌, subst, arith}
-use borrow.Rule.Slice.PartMut.{put_mid, take_put}
-use Rattle.std.proofs.lemmas.List.{take-take, drop-take, take_at, drop_at, take-set-le, drop-set-add, length-take-le, length-drop, length-take, length-set}
+use Rattle.std.proofs.Common.{◌≡◌, ℕ, zero, suc, ◌+◌, ◌-◌, ◌*◌, ◌<◌, ◌≤◌, List, [], ◌∷◌, ◌++◌, length, get_or, take, drop, set, Option, sym, refl, ap, ◌∙◌, arith}
+use Rattle.std.proofs.lemmas.List.{take-take, drop-take, take_at, drop_at, take-set-le, drop-set-add, length-take-le, length-drop}
 use Rattle.text.specs.Memory.{Memory}
 use Rattle.store.specs.declared.value.Value.{Value}
 use Rattle.machine.specs.Limits.{registers_per_frame}
 use Rattle.machine.specs.State as machine
 use Rattle.operands.specs.Slots.{registers_of}
 use Rattle.calls.specs.declared.frame.Frame.{Frame}
-use Rattle.calls.specs.Passing.{laid}
 use Rattle.calls.specs.Frames.{window, no_frame, callers_of}
 
 module _ {X : Type 0} where

@@ -1,16 +1,15 @@
 -- A register of a frame is written, and a call is left.
-use Rattle.std.proofs.Common.{◌≡◌, ℕ, zero, suc, ◌+◌, ◌-◌, ◌*◌, ◌<◌, ◌≤◌, ◌⊎◌, List, [], ◌∷◌, length, get_or, take, set, Some, Ok, Err, Option, sym, refl, ap, ◌∙◌, subst, inl, inr, add-one, arith}
+use Rattle.std.proofs.Common.{◌≡◌, ℕ, suc, ◌+◌, ◌*◌, ◌<◌, ◌≤◌, List, length, get_or, take, set, Some, Ok, Err, Option, sym, refl, ap, ◌∙◌, subst, inl, inr, arith}
 use Rattle.std.proofs.lemmas.Bool.{cases_lt, lt-ltb, le-ltb}
 use Rattle.text.specs.Memory.{Memory}
 use Rattle.store.specs.declared.value.Value.{Value}
-use Rattle.store.specs.Val.{Val, meaning, end_of}
+use Rattle.store.specs.Val.{meaning, end_of}
 use Rattle.machine.specs.declared.ending.Ending.{Ending}
 use Rattle.machine.specs.declared.ending.Ending.TheVariants.{Stuck, Finished}
 use Rattle.machine.specs.Limits.{registers_per_frame}
-use Rattle.machine.specs.Outcome.{Outcome, ◌>>=◌}
+use Rattle.machine.specs.Outcome.{◌>>=◌}
 use Rattle.machine.specs.Instr.{Program, fetch}
 use Rattle.machine.specs.State.{write, World, at}
-use Rattle.machine.specs.State as machine
 use Rattle.machine.specs.Step.{into, return}
 use Rattle.operands.specs.Slots.{registers_of, Within}
 use Rattle.operands.proofs.Slots.{slot-set, slot-within}

@@ -1,5 +1,5 @@
 -- Laying a record, landing a jump, finishing a function: what they do to the code that stands.
-use Rattle.std.proofs.Common.{◌≡◌, ℕ, zero, suc, ◌+◌, ◌-◌, ◌^◌, ◌<◌, ◌≤◌, min, List, [], ◌∷◌, ◌++◌, map, length, get_or, take, drop, set, pos, sym, refl, ap, ◌∙◌, subst, arith, w32, to_z}
+use Rattle.std.proofs.Common.{◌≡◌, ℕ, zero, suc, ◌+◌, ◌-◌, ◌^◌, ◌<◌, ◌≤◌, List, [], ◌∷◌, ◌++◌, map, length, get_or, take, drop, set, pos, sym, refl, ap, ◌∙◌, subst, arith, w32, to_z}
 use borrow.Author.Differences.{ints}
 use Rattle.std.specs.List.{AllByRecursion as All}
 use Rattle.std.proofs.lemmas.List.{length-set, length-drop, take-set-le, take_more_set, drop-set-add, map-set, map_push, set_past}

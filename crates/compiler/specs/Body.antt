@@ -1,5 +1,5 @@
 -- The code of an expression. The answer goes to register t; the registers above t are free. Assumes nothing.
-use Rattle.std.specs.Prelude.{ℕ, suc, ◌+◌, ◌-◌, cond, not, List, [], ◌∷◌, ◌++◌, length, pos, negsuc, Some, None, codes, Option, ◌==◌}
+use Rattle.std.specs.Prelude.{ℕ, suc, ◌+◌, ◌-◌, cond, List, [], ◌∷◌, ◌++◌, length, pos, negsuc, Some, None, codes, Option, ◌==◌}
 use Rattle.std.specs.Str.{bytes_eq}
 use Rattle.store.specs.Val.{Val}
 use Rattle.machine.specs.Instr.{Instr}
@@ -7,7 +7,7 @@ use Rattle.grammar.specs.Tree.{Expr, Args, Method}
 use Rattle.grammar.specs.Measure.{value_of, count}
 use Rattle.rube.specs.Classes.{Callee, Classes, parameter_count, lookup, known}
 use Rattle.compiler.specs.Layout.{class_key, contents_key, self_register, slots, slot, free, mark, class_global, function_of}
-use Rattle.compiler.specs.Pieces.{Code, number, halt_with, nil_into, require, truth_into, is_nil_into, class_into, send, count_test, marks}
+use Rattle.compiler.specs.Pieces.{Code, number, halt_with, nil_into, truth_into, is_nil_into, class_into, send, count_test, marks}
 
 module _ {A : Type 0} (P : Classes A) where
   -- a name is read: one that was never written ends the run

@@ -1,7 +1,6 @@
 -- The functions of the built-in operations: the receiver is in register 1, arguments in 2 and 3. Assumes nothing.
-use Rattle.std.specs.Prelude.{ℕ, List, [], ◌∷◌, ◌++◌, pos, codes}
+use Rattle.std.specs.Prelude.{ℕ, [], ◌∷◌, ◌++◌, codes}
 use Rattle.store.specs.Val.{Val}
-use Rattle.machine.specs.declared.arith.Op.{Op}
 use Rattle.machine.specs.declared.instruction.Kind.TheVariants.{Integer, Text}
 use Rattle.machine.specs.declared.builtin.Builtin.{Builtin}
 use Rattle.machine.specs.declared.builtin.Builtin.TheVariants as own
@@ -25,7 +24,7 @@ use Rattle.rube.specs.declared.builtin.Operation.TheVariants.{
   Has,
 }
 use Rattle.compiler.specs.Layout.{class_key, name_key, contents_key}
-use Rattle.compiler.specs.Pieces.{Code, number, nil_into, require, truth_into, count_test}
+use Rattle.compiler.specs.Pieces.{Code, nil_into, require, truth_into, count_test}
 
 -- a function of the machine itself, on one register; the answer goes there
 abbrev pub ask : Builtin → ℕ → Code

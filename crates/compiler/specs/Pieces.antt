@@ -1,5 +1,5 @@
 -- Straight-line pieces of code that every form uses. Assumes nothing.
-use Rattle.std.specs.Prelude.{ℕ, zero, suc, ◌+◌, List, [], ◌∷◌, ◌++◌, length, pos, codes}
+use Rattle.std.specs.Prelude.{ℕ, zero, suc, ◌+◌, List, [], ◌∷◌, ◌++◌, pos, codes}
 use Rattle.store.specs.Val.{Val}
 use Rattle.machine.specs.declared.instruction.Kind.TheVariants.{Integer, Text}
 use Rattle.machine.specs.Instr.{Instr}

@@ -1,5 +1,5 @@
 -- The code of a rule with its classes. Assumes nothing.
-use Rattle.std.specs.Prelude.{ℕ, suc, ◌+◌, List, [], ◌∷◌, ◌++◌, map, codes}
+use Rattle.std.specs.Prelude.{ℕ, suc, List, [], ◌∷◌, ◌++◌, map, codes}
 use Rattle.store.specs.Val.{Val}
 use Rattle.machine.specs.declared.instruction.Kind.TheVariants.{Text}
 use Rattle.machine.specs.declared.builtin.Builtin.TheVariants.{PrintValue}

@@ -1,5 +1,5 @@
 -- Every method that a class finds can be called. Assumes nothing.
-use Rattle.std.proofs.Common.{◌≡◌, ℕ, true, false, List, Some, codes, sym}
+use Rattle.std.proofs.Common.{◌≡◌, ℕ, false, List, Some, codes, sym}
 use Rattle.std.specs.List.{AllByRecursion as All}
 use Rattle.std.specs.Str.{bytes_eq}
 use Rattle.std.proofs.lemmas.Bool.{false≢true}

@@ -1,10 +1,9 @@
 -- Arguments and invocations. Assumes nothing.
-use Rattle.std.proofs.Common.{◌≡◌, ℕ, zero, suc, ◌+◌, ◌-◌, ◌<◌, ◌≤◌, Bool, true, false, cond, eqb, ◌≢◌, List, [], ◌∷◌, ◌++◌, map, length, get_or, pos, is_some, Some, None, codes, Option, sym, refl, ap, ◌∙◌, subst, add-zero, arith}
+use Rattle.std.proofs.Common.{◌≡◌, ℕ, zero, suc, ◌+◌, ◌<◌, true, false, eqb, List, [], ◌∷◌, ◌++◌, map, length, pos, Some, None, Option, refl, ◌∙◌, subst, add-zero, arith}
 use Rattle.std.proofs.lemmas.List.{length-map, map_push, length_push}
 use Rattle.std.specs.List.{AllByRecursion as All}
-use Rattle.std.specs.Str.{bytes_eq}
 use Rattle.std.specs.Option.{option_map}
-use Rattle.store.specs.Val.{Val, equal_val}
+use Rattle.store.specs.Val.{Val}
 use Rattle.store.specs.Tables.{Table, look, put}
 use Rattle.store.specs.Tables as store
 use Rattle.machine.specs.declared.ending.Ending.TheVariants.{WrongArgumentCount}
@@ -12,28 +11,27 @@ use Rattle.machine.specs.Limits.{Limits, registers_per_frame}
 use Rattle.machine.specs.Builtin.{builtin_of}
 use Rattle.machine.specs.Instr.{Instr, Program}
 use Rattle.machine.specs.Operands.{truth}
-use Rattle.machine.specs.State.{Registers, Frame, frame, at, read, write, passed}
+use Rattle.machine.specs.State.{Registers, Frame, frame, at, write, passed}
 use Rattle.machine.proofs.Judge.{Has, Hold, none, more, Fetch}
 use Rattle.machine.proofs.Exec.{do-const, do-jmp, do-if_zero, do-if_other, do-rd_tab, do-has_tab, do-call, end-call, end-halt, forward}
 use Rattle.grammar.specs.Tree.{Expr, Args}
 use Rattle.grammar.specs.Measure.{count}
-use Rattle.rube.specs.Classes.{Callee, Classes, class_names, class_count, known, lookup, parameter_count}
+use Rattle.rube.specs.Classes.{Callee, Classes, class_names, lookup, parameter_count}
 use Rattle.rube.specs.Heap.{Heap, Setting, class_of}
 use Rattle.rube.specs.Heap as heap
-use Rattle.rube.specs.Evaluation.{State, Res, val, end, unless}
-use Rattle.rube.specs.Evaluation as evaluation
+use Rattle.rube.specs.Evaluation.{State, unless}
 use Rattle.rube.specs.Meaning.{Eval, enter, framed, called, eval, evals}
-use Rattle.compiler.specs.Layout.{place_in, free, function_of}
-use Rattle.compiler.specs.Pieces.{number, class_into, require, send}
+use Rattle.compiler.specs.Layout.{place_in, function_of}
+use Rattle.compiler.specs.Pieces.{number, class_into, send}
 use Rattle.compiler.specs.Body.{compile, compiles}
-use Rattle.correctness.specs.Fitting.{Fit, Fits, MethodName}
-use Rattle.correctness.proofs.Relation.{shift, tables_of, world, Globals, Fine, Sound, Proper, Stand, Grows, Keep}
+use Rattle.correctness.specs.Fitting.{MethodName}
+use Rattle.correctness.proofs.Relation.{shift, tables_of, world, Globals, Fine, Sound, Grows}
 use Rattle.correctness.proofs.Segments as seg
 use Rattle.correctness.proofs.Segments.{Seg, Split, split, seg-end, head, tail, last}
-use Rattle.correctness.proofs.Following.{Sim, bind, finish, count-then, step_then, loop-then, slack, done, ending, weaken}
+use Rattle.correctness.proofs.Following.{Sim, bind, count-then, step_then, loop-then, slack, done, ending, weaken}
 use Rattle.correctness.proofs.Registers.{has-written, has_other, hold-other, hold-below, hold-kept, has_kept, keep_same, keep-then}
-use Rattle.correctness.proofs.Returning.{Except, has-except, hold-except, except-pre, fine-grows, grows_then, grows_same, Back, back-post}
-use Rattle.correctness.proofs.Judged.{Pre, Post, Posts, Good, Goods, first, next, scratch}
+use Rattle.correctness.proofs.Returning.{has-except, hold-except, except-pre, fine-grows, grows_then, grows_same, Back, back-post}
+use Rattle.correctness.proofs.Judged.{Pre, Post, Posts, Goods, first, scratch}
 use Rattle.correctness.proofs.Tabled.{class-here, read-class, read-method}
 use Rattle.correctness.proofs.Classed.{one, two, class_at, class-then}
 use Rattle.correctness.proofs.Forms.{setting, Ok}

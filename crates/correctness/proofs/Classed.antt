@@ -1,29 +1,25 @@
 -- The class of a value, read from tables; fields of self. Assumes nothing.
-use Rattle.std.proofs.Common.{◌≡◌, ℕ, zero, suc, ◌+◌, ◌<◌, ◌≤◌, Bool, true, false, cond, ◌≢◌, List, [], ◌∷◌, ◌++◌, map, length, get_or, pos, is_some, Some, None, codes, Option, sym, refl, ap, ◌∙◌, subst, arith}
-use Rattle.std.specs.List.{AllByRecursion as All}
-use Rattle.std.specs.Str.{bytes_eq}
-use Rattle.std.specs.Option.{option_map}
-use Rattle.store.specs.Val.{Val, equal_val}
+use Rattle.std.proofs.Common.{◌≡◌, ℕ, suc, ◌+◌, ◌<◌, ◌≤◌, true, false, ◌≢◌, List, Some, codes, sym, refl, ◌∙◌, arith}
+use Rattle.store.specs.Val.{Val}
 use Rattle.store.specs.Tables.{Table, look, put}
 use Rattle.store.specs.Tables as store
 use Rattle.machine.specs.Limits.{Limits, registers_per_frame}
-use Rattle.machine.specs.Instr.{Instr, Program}
-use Rattle.machine.specs.Operands.{truth, is_zero}
-use Rattle.machine.specs.State.{Registers, Frame, at, read, write}
-use Rattle.machine.proofs.Judge.{Has, Hold, Fetch}
+use Rattle.machine.specs.Instr.{Program}
+use Rattle.machine.specs.Operands.{truth}
+use Rattle.machine.specs.State.{Registers, Frame, at, write}
+use Rattle.machine.proofs.Judge.{Has}
 use Rattle.machine.proofs.Registers.{read-other}
-use Rattle.machine.proofs.Exec.{do-const, do-mov, do-eq, do-jmp, do-if_zero, do-if_other, do-rd_glob, do-rd_tab, do-has_tab, do-is_kind, end-halt, forward, back}
-use Rattle.rube.specs.Classes.{Classes, class_names, class_count, known}
-use Rattle.rube.specs.Heap.{Heap, nil, is_nil, class_of, fields_of, no_cell, Cell}
-use Rattle.rube.specs.Heap as heap
-use Rattle.rube.specs.Evaluation.{State, Res, val, end}
+use Rattle.machine.proofs.Exec.{do-const, do-jmp, do-if_zero, do-if_other, do-rd_glob, do-rd_tab, do-is_kind, forward}
+use Rattle.rube.specs.Classes.{Classes, class_names, class_count}
+use Rattle.rube.specs.Heap.{Heap, class_of}
+use Rattle.rube.specs.Evaluation.{State, Res}
 use Rattle.compiler.specs.Layout.{class_key, place_in}
-use Rattle.compiler.specs.Pieces.{class_into, truth_into}
-use Rattle.correctness.proofs.Relation.{shift, tables_of, world, Globals, Fine, integer, text, object, FineHeap, Self, self}
-use Rattle.correctness.proofs.Segments.{Seg, Split, split, seg-end, head, tail, last}
-use Rattle.correctness.proofs.Following.{Sim, step_then, slack, done, ending}
+use Rattle.compiler.specs.Pieces.{class_into}
+use Rattle.correctness.proofs.Relation.{shift, tables_of, world, Globals, Fine, integer, text, object}
+use Rattle.correctness.proofs.Segments.{Seg, seg-end, head, tail, last}
+use Rattle.correctness.proofs.Following.{Sim, step_then, slack}
 use Rattle.correctness.proofs.Registers.{has-written, has_other}
-use Rattle.correctness.proofs.Returning.{Except, has-except}
+use Rattle.correctness.proofs.Returning.{Except}
 use Rattle.correctness.proofs.Tabled.{object-table-here, read-object-class}
 
 pub one : (n : ℕ) → n + 1 ≡ suc n

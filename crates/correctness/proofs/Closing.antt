@@ -1,5 +1,5 @@
 -- The end of a run: the value's to_s, the test of its answer, the print. Assumes nothing.
-use Rattle.std.proofs.Common.{◌≡◌, ℕ, suc, ◌+◌, ◌<◌, Bool, true, false, List, [], ◌∷◌, pos, Ok, Err, codes, refl, subst, arith}
+use Rattle.std.proofs.Common.{◌≡◌, ℕ, suc, ◌+◌, ◌<◌, true, false, List, [], ◌∷◌, pos, Ok, Err, codes, refl, subst, arith}
 use Rattle.store.specs.Val.{Val}
 use Rattle.store.specs.Tables.{Table}
 use Rattle.machine.specs.declared.ending.Ending.{Ending}

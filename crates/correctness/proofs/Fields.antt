@@ -1,5 +1,5 @@
 -- Fields of self, and class tests. Assumes nothing.
-use Rattle.std.proofs.Common.{◌≡◌, ℕ, zero, suc, ◌+◌, ◌<◌, ◌≤◌, Bool, true, false, cond, ◌≢◌, List, [], ◌∷◌, ◌++◌, map, length, get_or, pos, is_some, Some, None, codes, Option, sym, refl, ap, ◌∙◌, subst, arith}
+use Rattle.std.proofs.Common.{◌≡◌, ℕ, suc, ◌+◌, ◌<◌, Bool, true, false, cond, List, [], ◌∷◌, ◌++◌, length, get_or, Some, None, codes, Option, sym, refl, ap, ◌∙◌, subst, arith}
 use Rattle.std.specs.List.{AllByRecursion as All}
 use Rattle.std.specs.Str.{bytes_eq}
 use Rattle.std.specs.Option.{option_map}
@@ -8,33 +8,33 @@ use Rattle.store.specs.Tables.{Table, look, put}
 use Rattle.store.specs.Tables as store
 use Rattle.machine.specs.Limits.{Limits, registers_per_frame}
 use Rattle.machine.specs.Instr.{Instr, Program}
-use Rattle.machine.specs.Operands.{truth, is_zero}
-use Rattle.machine.specs.State.{Registers, Frame, at, read, write}
-use Rattle.machine.proofs.Judge.{Has, Hold, Fetch}
-use Rattle.machine.proofs.Exec.{do-const, do-mov, do-eq, do-jmp, do-if_zero, do-if_other, do-rd_glob, do-rd_tab, do-has_tab, forward}
+use Rattle.machine.specs.Operands.{truth}
+use Rattle.machine.specs.State.{Registers, Frame, at, write}
+use Rattle.machine.proofs.Judge.{Has}
+use Rattle.machine.proofs.Exec.{do-const, do-eq, do-jmp, do-if_zero, do-if_other, do-rd_glob, do-rd_tab, do-has_tab, forward}
 use Rattle.std.proofs.lemmas.Slice.Eq.{bytes_eq-Decides}
 use Rattle.std.proofs.lemmas.Bool.{false≢true}
-use Rattle.grammar.specs.Tree.{Expr, Args}
+use Rattle.grammar.specs.Tree.{Expr}
 use Rattle.rube.specs.Classes.{Classes, class_names, class_count, known}
 use Rattle.rube.specs.Heap.{Heap, nil, is_nil, class_of, fields_of, no_cell, Cell}
 use Rattle.rube.specs.Heap as heap
 use Rattle.rube.specs.Evaluation.{State, Res, val, end}
 use Rattle.rube.specs.Evaluation as evaluation
 use Rattle.rube.specs.Meaning.{Eval, or_nil, location_of, eval}
-use Rattle.compiler.specs.Layout.{self_register, place_in, free, class_global}
+use Rattle.compiler.specs.Layout.{place_in, class_global}
 use Rattle.compiler.specs.Pieces.{class_into, truth_into, nil_into}
-use Rattle.compiler.specs.Body.{read_field, test_class, compile}
-use Rattle.correctness.specs.Fitting.{Fit, FieldName}
-use Rattle.correctness.proofs.Relation.{shift, tables_of, world, Globals, Fine, integer, text, object, FineHeap, FineCell, a_map, an_object, its_contents, FineField, Self, self, Proper, Stand, Grows, Keep}
-use Rattle.correctness.proofs.Segments.{Seg, Split, split, seg-end, head, tail, last}
-use Rattle.correctness.proofs.Following.{Sim, bind, count-then, step_then, slack, done, ending}
+use Rattle.compiler.specs.Body.{read_field, compile}
+use Rattle.correctness.specs.Fitting.{Fit}
+use Rattle.correctness.proofs.Relation.{shift, tables_of, world, Globals, Fine, integer, text, object, FineHeap, FineCell, a_map, an_object, FineField, Self, self}
+use Rattle.correctness.proofs.Segments.{Seg, split, seg-end, head, tail, last}
+use Rattle.correctness.proofs.Following.{Sim, bind, count-then, step_then, done}
 use Rattle.correctness.proofs.Registers.{has-written, has_other}
-use Rattle.correctness.proofs.Returning.{Except, has-except, except-pre}
-use Rattle.correctness.proofs.Judged.{Pre, Post, Good, first, next, answer, scratch}
+use Rattle.correctness.proofs.Returning.{except-pre}
+use Rattle.correctness.proofs.Judged.{Pre, Post, first, next, answer, scratch}
 use Rattle.correctness.proofs.Tabled.{object-here, object-table-here, read-field, equal-classes}
-use Rattle.correctness.proofs.Classed.{one, two, class_at, class-then}
+use Rattle.correctness.proofs.Classed.{two, class-then}
 use Rattle.correctness.proofs.Tests.{truth-then}
-use Rattle.correctness.proofs.Forms.{nil-fine, branch, setting, Ok, fit-below}
+use Rattle.correctness.proofs.Forms.{nil-fine, Ok}
 
 module _ {A : Type 0} (P : Classes A) (L : Limits) (C : Program) (G : Table) (globals : Globals P G) where
   -- a value of the language has a known class

@@ -1,37 +1,36 @@
 -- The forms of expressions that touch no table: literals, names, conditionals, loops, sequences. Assumes nothing.
-use Rattle.std.proofs.Common.{◌≡◌, ℕ, zero, suc, ◌+◌, ◌*◌, ◌<◌, ◌≤◌, Bool, true, false, cond, ◌≢◌, List, [], ◌∷◌, ◌++◌, map, length, get_or, pos, negsuc, Some, None, Option, sym, refl, ap, ◌∙◌, subst, arith}
+use Rattle.std.proofs.Common.{◌≡◌, ℕ, suc, ◌+◌, ◌<◌, ◌≤◌, Bool, true, false, cond, List, [], ◌∷◌, pos, Some, None, Option, sym, refl, ◌∙◌, subst, arith}
 use Rattle.std.specs.List.{AllByRecursion as All}
 use Rattle.std.specs.Str.{bytes_eq}
 use Rattle.store.specs.Val.{Val, equal_val}
 use Rattle.store.specs.Tables.{Table, look, put}
 use Rattle.store.proofs.Tables.{look-put-same, look-put-other}
 use Rattle.store.specs.ValuesLemmas.{decides-val}
-use Rattle.std.proofs.lemmas.Bool.Decides.{not_from_Decides, nat_tests}
+use Rattle.std.proofs.lemmas.Bool.Decides.{nat_tests}
 use Rattle.machine.specs.Limits.{Limits, registers_per_frame}
 use Rattle.machine.specs.Instr.{Instr, Program}
-use Rattle.machine.specs.Operands.{truth, is_zero}
+use Rattle.machine.specs.Operands.{truth}
 use Rattle.machine.specs.State.{Registers, Frame, at, write}
-use Rattle.machine.proofs.Judge.{Has, Hold, Fetch}
+use Rattle.machine.proofs.Judge.{Has, Fetch}
 use Rattle.machine.proofs.Registers.{read-other}
 use Rattle.std.proofs.lemmas.Slice.Eq.{bytes_eq-Decides}
 use Rattle.std.proofs.lemmas.Bool.{false≢true}
 use Rattle.machine.proofs.Exec.{do-const, do-mov, do-eq, do-jmp, do-if_zero, do-if_other, do-rd_glob, end-halt, forward, back}
-use Rattle.grammar.specs.Tree.{Expr, Args}
-use Rattle.grammar.specs.Measure.{value_of}
-use Rattle.rube.specs.Classes.{Classes, known, among}
+use Rattle.grammar.specs.Tree.{Expr}
+use Rattle.rube.specs.Classes.{Classes, among}
 use Rattle.rube.specs.Heap.{Heap, Setting, nil, is_nil}
 use Rattle.rube.specs.Evaluation.{State, Res, val, end, with_locals}
 use Rattle.rube.specs.Evaluation as evaluation
-use Rattle.rube.specs.Meaning.{Eval, bound, eval, evals}
+use Rattle.rube.specs.Meaning.{Eval, bound, eval}
 use Rattle.compiler.specs.Layout.{mark, slot, free, place_in}
 use Rattle.compiler.specs.Pieces.{is_nil_into}
-use Rattle.compiler.specs.Body.{read_local, compile, compiles}
-use Rattle.correctness.specs.Fitting.{Fit, Fits}
-use Rattle.correctness.proofs.Relation.{shift, world, held, Globals, Fine, integer, text, object, FineHeap, Self, self, Proper, Stand, Grows, Keep}
-use Rattle.correctness.proofs.Segments.{Seg, Split, split, seg-end, head, tail, last}
+use Rattle.compiler.specs.Body.{read_local, compile}
+use Rattle.correctness.specs.Fitting.{Fit}
+use Rattle.correctness.proofs.Relation.{shift, world, held, Globals, Fine, integer, text, object, FineHeap, Self, self}
+use Rattle.correctness.proofs.Segments.{Seg, split, seg-end, head, tail, last}
 use Rattle.correctness.proofs.Following.{Sim, bind, finish, count-then, step_then, loop-then, slack, done, ending}
-use Rattle.correctness.proofs.Registers.{has-written, has_other, keep-write, stand-write, slot-below, place_same}
-use Rattle.correctness.proofs.Judged.{Pre, Post, Good, Goods, first, next, answer, scratch, scratched}
+use Rattle.correctness.proofs.Registers.{has-written, has_other, slot-below, place_same}
+use Rattle.correctness.proofs.Judged.{Pre, Post, Good, first, next, answer, scratched}
 
 -- an answer's register is one of the frame's
 pub fit-below : {A : Type 0} (ns : List (List ℕ)) (e : Expr A) (t : ℕ) → Fit ns e t → t < registers_per_frame

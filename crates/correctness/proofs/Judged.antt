@@ -1,5 +1,5 @@
 -- What holds before and after the code of an expression. Assumes nothing.
-use Rattle.std.proofs.Common.{◌≡◌, ℕ, zero, suc, ◌+◌, ◌<◌, ◌≤◌, List, [], ◌∷◌, ◌++◌, map, length, sym, refl, ap, ◌∙◌, subst, arith}
+use Rattle.std.proofs.Common.{◌≡◌, ℕ, ◌+◌, ◌<◌, ◌≤◌, List, map, length, arith}
 use Rattle.std.specs.List.{AllByRecursion as All}
 use Rattle.store.specs.Val.{Val}
 use Rattle.store.specs.Tables.{Table}

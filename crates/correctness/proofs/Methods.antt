@@ -1,5 +1,5 @@
 -- Methods that classes define: the count test, marks, the body, the return. Assumes nothing.
-use Rattle.std.proofs.Common.{◌≡◌, ℕ, zero, suc, ◌+◌, ◌-◌, ◌<◌, ◌≤◌, Bool, true, false, cond, eqb, ◌⊎◌, List, [], ◌∷◌, map, length, Some, refl, ◌∙◌, inl, inr, ⊎_elim, arith}
+use Rattle.std.proofs.Common.{◌≡◌, ℕ, zero, suc, ◌+◌, ◌-◌, ◌<◌, ◌≤◌, true, eqb, ◌⊎◌, List, [], ◌∷◌, map, length, Some, refl, ◌∙◌, inl, inr, ⊎_elim, arith}
 use Rattle.std.specs.List.{slice_get, AllByRecursion as All}
 use Rattle.std.proofs.lemmas.Bool.{cases_lt}
 use Rattle.store.specs.Val.{Val}
@@ -24,7 +24,7 @@ use Rattle.compiler.specs.Body.{body_code, method_code}
 use Rattle.correctness.specs.Fitting.{Fit}
 use Rattle.correctness.proofs.Relation.{shift, world, Globals, Fine, Sound, Self}
 use Rattle.correctness.proofs.Lookup.{nth-below}
-use Rattle.correctness.proofs.Segments.{Seg, split, head, tail, last}
+use Rattle.correctness.proofs.Segments.{Seg, split, head, tail}
 use Rattle.correctness.proofs.Following.{Sim, bind, count-then, step_then, slack, done}
 use Rattle.correctness.proofs.Registers.{has-written, keep_same}
 use Rattle.std.proofs.lemmas.List.{length-append}

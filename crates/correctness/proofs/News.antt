@@ -26,7 +26,7 @@ use Rattle.compiler.specs.Pieces.{number, halt_with}
 use Rattle.compiler.specs.Body as code
 use Rattle.compiler.specs.Body.{compile, compiles, create, initialize}
 use Rattle.correctness.specs.Fitting.{Fits}
-use Rattle.correctness.proofs.Relation.{shift, tables_of, world, Globals, Fine, integer, text, object, Grows}
+use Rattle.correctness.proofs.Relation.{shift, tables_of, world, Globals, Fine, integer, text, Grows}
 use Rattle.correctness.proofs.Segments.{Seg, split, head, tail, last}
 use Rattle.correctness.proofs.Following.{Sim, bind, bind-with, finish_with, count-then, step_then, done, ending}
 use Rattle.correctness.proofs.Registers.{has-written, has_other, hold-other, hold-below, keep_same, keep-then}

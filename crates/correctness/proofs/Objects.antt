@@ -1,39 +1,32 @@
 -- Fields written, objects made. Assumes nothing.
-use Rattle.std.proofs.Common.{◌≡◌, ℕ, zero, suc, ◌+◌, ◌<◌, ◌≤◌, Bool, true, false, cond, ◌≢◌, List, [], ◌∷◌, ◌++◌, map, length, get_or, pos, Some, None, codes, Option, sym, refl, ap, ◌∙◌, subst, arith}
-use Rattle.std.specs.List.{AllByRecursion as All}
+use Rattle.std.proofs.Common.{◌≡◌, ℕ, suc, ◌+◌, ◌<◌, ◌≤◌, Bool, true, false, List, get_or, codes, refl, ◌∙◌, arith}
 use Rattle.std.specs.Str.{bytes_eq}
-use Rattle.std.proofs.lemmas.Slice.Eq.{bytes_eq-Decides}
 use Rattle.store.specs.Val.{Val}
-use Rattle.store.specs.Tables.{Table, Tables, look, put, takes}
-use Rattle.store.specs.Tables as store
+use Rattle.store.specs.Tables.{Table}
 use Rattle.machine.specs.declared.ending.Ending.TheVariants.{NoTableSpace}
 use Rattle.machine.specs.Limits.{Limits, registers_per_frame}
-use Rattle.machine.specs.Instr.{Instr, Program}
-use Rattle.machine.specs.State.{Registers, Frame, at, read, write, World}
-use Rattle.machine.proofs.Judge.{Has, Hold, Fetch}
-use Rattle.machine.proofs.Exec.{do-const, do-rd_glob, do-mk_tab, end-mk_tab, do-wr_tab, end-wr_tab}
+use Rattle.machine.specs.Instr.{Program}
+use Rattle.machine.specs.State.{Registers, Frame, at, write}
+use Rattle.machine.proofs.Exec.{do-const, do-wr_tab, end-wr_tab}
 use Rattle.grammar.specs.Tree.{Expr}
-use Rattle.rube.specs.Classes.{Classes, class_names, class_count, known}
+use Rattle.rube.specs.Classes.{Classes}
 use Rattle.rube.specs.Heap as heap
 use Rattle.rube.specs.Heap.{Heap, Cell, no_cell, fields_of, new_pairs, put_at, fits}
-use Rattle.rube.specs.Evaluation.{State, Res, val, end, unless, with_heap}
-use Rattle.rube.specs.Evaluation as evaluation
-use Rattle.rube.specs.Meaning.{Eval, location_of, cells_of, make_object, make, eval}
-use Rattle.compiler.specs.Layout.{class_key, contents_key, place_in, free, class_global}
-use Rattle.compiler.specs.Body as code
+use Rattle.rube.specs.Evaluation.{State, val, unless, with_heap}
+use Rattle.rube.specs.Meaning.{Eval, location_of, eval}
+use Rattle.compiler.specs.Layout.{free}
 use Rattle.compiler.specs.Body.{write_field, compile}
-use Rattle.correctness.specs.Fitting.{Fit, FieldName}
-use Rattle.correctness.proofs.Relation.{shift, tables_of, world, Globals, Fine, integer, text, object, Sound, Self, self, Proper, Stand, Grows, Keep}
-use Rattle.correctness.proofs.Segments.{Seg, Split, split, seg-end, head, tail, last}
-use Rattle.correctness.proofs.Segments as seg
-use Rattle.correctness.proofs.Following.{Sim, bind, count-then, step_then, slack, done, ending}
+use Rattle.correctness.specs.Fitting.{FieldName}
+use Rattle.correctness.proofs.Relation.{world, Globals, Sound, Self, self, Proper, Grows}
+use Rattle.correctness.proofs.Segments.{Seg, split, head, tail, last}
+use Rattle.correctness.proofs.Following.{Sim, bind, count-then, step_then, done, ending}
 use Rattle.correctness.proofs.Registers.{has-written, has_other, keep-write, stand-write}
-use Rattle.correctness.proofs.Returning.{fine-grows, self-grows, grows_then, grows_same, all-grows}
-use Rattle.correctness.proofs.Judged.{Pre, Post, Good, first, next, scratched}
-use Rattle.correctness.proofs.Tabled.{object-table-here, write-field, make-object, make-map, length-tables, length-made, cells-object, new-object}
-use Rattle.correctness.proofs.Heaps.{grows-put, grows-more, sound-field, sound-make}
-use Rattle.correctness.proofs.Space.{takes_field, fits-after-put, fits-after-make, Makes, both_fit, no_table, no_pair, MakesMap, first_fails, first_fits, makes-class, makes-map, fits-object}
-use Rattle.correctness.proofs.Forms.{setting, Ok, fit-below}
+use Rattle.correctness.proofs.Returning.{fine-grows, self-grows, grows_then, all-grows}
+use Rattle.correctness.proofs.Judged.{Post, first}
+use Rattle.correctness.proofs.Tabled.{object-table-here, write-field}
+use Rattle.correctness.proofs.Heaps.{grows-put, sound-field}
+use Rattle.correctness.proofs.Space.{takes_field, fits-after-put}
+use Rattle.correctness.proofs.Forms.{Ok}
 
 module _ {A : Type 0} (P : Classes A) (L : Limits) (C : Program) (G : Table) (globals : Globals P G) where
   abbrev within : heap.Setting A

@@ -1,15 +1,15 @@
 -- Registers of a body: what a write leaves. Assumes nothing.
-use Rattle.std.proofs.Common.{◌≡◌, ℕ, zero, suc, ◌+◌, ◌<◌, ◌≤◌, Bool, true, false, cond, ◌||◌, ◌≢◌, List, [], ◌∷◌, ◌++◌, length, Some, None, Option, sym, refl, ap, ◌∙◌, subst, arith}
+use Rattle.std.proofs.Common.{◌≡◌, ℕ, suc, ◌+◌, ◌<◌, ◌≤◌, Bool, true, false, cond, ◌||◌, ◌≢◌, List, [], ◌∷◌, length, sym, refl, ◌∙◌, arith}
 use Rattle.std.specs.Str.{bytes_eq}
 use Rattle.std.proofs.lemmas.Slice.Eq.{bytes_eq-Decides}
 use Rattle.store.specs.Val.{Val}
-use Rattle.store.specs.Tables.{Table, look, put}
-use Rattle.machine.specs.State.{Registers, read, write}
+use Rattle.store.specs.Tables.{Table}
+use Rattle.machine.specs.State.{Registers, write}
 use Rattle.machine.proofs.Judge.{Has, Hold, none, more}
 use Rattle.machine.proofs.Registers.{read-written, read-other}
 use Rattle.rube.specs.Classes.{Classes, among}
 use Rattle.compiler.specs.Layout.{place_in, slot, free}
-use Rattle.correctness.proofs.Relation.{Stand, Keep, held, shift}
+use Rattle.correctness.proofs.Relation.{Stand, Keep}
 
 pub has-written : (R : Registers) (a : ℕ) (v : Val) → Has (write R a v) a v
 has-written R a v = record { is = read-written R a v }

@@ -1,5 +1,5 @@
 -- How the meaning's state stands in the machine: heap in tables, locals in registers. Assumes nothing.
-use Rattle.std.proofs.Common.{◌≡◌, ℕ, suc, ◌+◌, ◌<◌, ◌≤◌, Bool, true, false, cond, List, [], ◌∷◌, ◌++◌, map, length, get_or, Some, None, codes, Option}
+use Rattle.std.proofs.Common.{◌≡◌, ℕ, suc, ◌+◌, ◌<◌, ◌≤◌, true, false, List, [], ◌∷◌, ◌++◌, map, length, get_or, Some, None, codes, Option}
 use Rattle.std.specs.List.{AllByRecursion as All}
 use Rattle.std.specs.Str.{bytes_eq}
 use Rattle.store.specs.Val.{Val}
@@ -8,9 +8,9 @@ use Rattle.machine.specs.State as machine
 use Rattle.machine.specs.State.{Registers}
 use Rattle.machine.proofs.Judge.{Has}
 use Rattle.rube.specs.Classes.{Named, Classes, visible, class_names, class_count, known, among}
-use Rattle.rube.specs.Heap.{Cell, Heap, Setting, no_cell, fits}
+use Rattle.rube.specs.Heap.{Cell, Heap, no_cell, fits}
 use Rattle.rube.specs.Evaluation.{State}
-use Rattle.compiler.specs.Layout.{class_key, name_key, contents_key, mark, nil_global, class_global, place_in, slot, free, function_of}
+use Rattle.compiler.specs.Layout.{class_key, name_key, contents_key, mark, nil_global, class_global, place_in, slot, function_of}
 use Rattle.correctness.specs.Fitting.{FieldName}
 
 -- a class whose objects have fields: an Integer and a String are values, a Map has contents

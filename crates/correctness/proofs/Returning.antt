@@ -1,5 +1,5 @@
 -- A callee and what it leaves: the caller's registers but one, and a heap that has grown. Assumes nothing.
-use Rattle.std.proofs.Common.{◌≡◌, ℕ, zero, suc, ◌+◌, ◌<◌, ◌≤◌, Bool, true, false, ◌≢◌, List, [], ◌∷◌, ◌++◌, map, length, get_or, sym, refl, ap, ◌∙◌, subst, arith}
+use Rattle.std.proofs.Common.{◌≡◌, ℕ, ◌+◌, ◌≤◌, true, ◌≢◌, List, [], ◌∷◌, length, ◌∙◌, arith}
 use Rattle.std.specs.List.{AllByRecursion as All}
 use Rattle.store.specs.Val.{Val}
 use Rattle.store.specs.Tables.{Table}
@@ -9,9 +9,8 @@ use Rattle.machine.proofs.Judge.{Has, Hold, none, more}
 use Rattle.rube.specs.Classes.{Classes}
 use Rattle.rube.specs.Heap.{Heap, fits}
 use Rattle.rube.specs.Evaluation.{State}
-use Rattle.compiler.specs.Layout.{free}
-use Rattle.correctness.proofs.Relation.{shift, Fine, integer, text, object, Sound, Self, self, Proper, Stand, Grows, Keep}
-use Rattle.correctness.proofs.Registers.{has-written, has_other, keep-write, stand-write, slot-below}
+use Rattle.correctness.proofs.Relation.{shift, Fine, integer, text, object, Sound, Self, self, Grows}
+use Rattle.correctness.proofs.Registers.{has-written, keep-write, stand-write, slot-below}
 use Rattle.correctness.proofs.Judged.{Pre, Post}
 
 -- only the register d may have changed

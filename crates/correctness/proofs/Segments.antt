@@ -1,5 +1,5 @@
 -- Code that stands in a function, from a place up to a place. Assumes nothing.
-use Rattle.std.proofs.Common.{◌≡◌, ℕ, zero, suc, ◌+◌, List, [], ◌∷◌, ◌++◌, length, sym, refl, ap, ◌∙◌, arith}
+use Rattle.std.proofs.Common.{◌≡◌, ℕ, suc, ◌+◌, List, [], ◌∷◌, ◌++◌, length, refl, arith}
 use Rattle.machine.specs.Instr.{Instr, Program}
 use Rattle.machine.proofs.Judge.{Fetch}
 

@@ -1,6 +1,6 @@
 -- Which lists of classes come to be by accepting them one after the other. Assumes nothing.
 use Rattle.std.specs.Prelude.{◌≡◌, ℕ, ◌≤◌, true, false, List, [], ◌∷◌, map, length, codes}
-use Rattle.grammar.specs.Tree.{Method, Class}
+use Rattle.grammar.specs.Tree.{Class}
 use Rattle.rube.specs.Classes.{Classes, among, known, added_methods}
 
 abbrev pub most_classes : ℕ

@@ -1,11 +1,11 @@
 -- Bytes laid over others, byte by byte or at once.
-use Rattle.std.proofs.Common.{◌≡◌, ℕ, ◌+◌, ◌-◌, ◌<◌, ◌≤◌, List, [], ◌∷◌, ◌++◌, length, get_or, take, drop, set, sym, refl, ap, ◌∙◌, arith, rules}
+use Rattle.std.proofs.Common.{◌≡◌, ℕ, ◌+◌, ◌<◌, ◌≤◌, List, [], ◌++◌, length, get_or, take, drop, set, sym, refl, ap, ◌∙◌, arith, rules}
 use borrow.Rule.Slice.PartMut.{put_mid}
-use Rattle.std.proofs.lemmas.List.{same_lists, places, append_assoc, drop-drop, take-append-drop, take_at, length-append, length-take-le, get_or-set_same, get_or-set_other, get_or_default}
+use Rattle.std.proofs.lemmas.List.{same_lists, places, append_assoc, drop-drop, take_at, length-append, length-take-le, get_or-set_same, get_or-set_other, get_or_default}
 use Rattle.std.proofs.lemmas.Bool.{cases_eq}
 use Rattle.text.specs.declared.span.Span.{Span}
 use Rattle.text.specs.declared.span.Space.TheVariants.{Made}
-use Rattle.text.specs.Memory.{Memory, byte_of, bytes_of}
+use Rattle.text.specs.Memory.{Memory, bytes_of}
 use Rattle.text.specs.Agree.{Grown, made_end}
 use Rattle.text.specs.Meanings.{length-bytes_of, get_or-bytes_of, bytes_of-grown}
 use Rattle.effects.specs.Laid.{laid}

@@ -1,12 +1,12 @@
 -- What a print or a new string leaves, as the effects say.
-use Rattle.std.proofs.Common.{◌≡◌, ℕ, suc, ◌+◌, ◌-◌, ◌<◌, ◌≤◌, Bool, true, false, ◌&&◌, ltb, leb, List, ◌++◌, length, take, Ok, Err, sym, refl, ap, ◌∙◌, add-one, arith}
+use Rattle.std.proofs.Common.{◌≡◌, ℕ, suc, ◌+◌, ◌-◌, ◌<◌, ◌≤◌, true, false, ◌&&◌, ltb, leb, List, ◌++◌, length, take, Ok, Err, sym, ap, ◌∙◌, arith}
 use Rattle.std.proofs.lemmas.Bool.{le-leb, lt-leb}
 use Rattle.machine.specs.declared.ending.Ending.TheVariants.{NoTextSpace, NoOutputSpace}
 use Rattle.machine.specs.Limits.{most_strings, most_string_bytes}
-use Rattle.machine.specs.Effects.{Effects, charge, print}
+use Rattle.machine.specs.Effects.{charge, print}
 use Rattle.effects.specs.declared.spent.Spent.{Spent}
 use Rattle.effects.specs.Laid.{laid}
-use Rattle.effects.specs.Spending.{effects_of, Prints, Makes}
+use Rattle.effects.specs.Spending.{effects_of, Prints}
 use Rattle.effects.proofs.Laying.{take-laid, length-laid}
 
 module _ (s : List ℕ) (p : Spent) (out : List ℕ) where

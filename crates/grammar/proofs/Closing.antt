@@ -3,7 +3,7 @@ use Rattle.std.proofs.Common.{◌≡◌, ℕ, ◌≤◌, List, [], ◌∷◌, �
 use Rattle.lexer.specs.Token.{Terminal, identifier, integer, keyword, symbol}
 use Rattle.lexer.specs.declared.token.Keyword.TheVariants as word
 use Rattle.lexer.specs.declared.token.Symbol.TheVariants as sign
-use Rattle.grammar.specs.Tree.{Expr, Args, Class, Text, Bare, BareClass, BareText}
+use Rattle.grammar.specs.Tree.{Expr, Args, Text, Bare, BareClass, BareText}
 use Rattle.grammar.specs.Grammar.{Kind, toks, name_toks, class_toks, tokens_of, level, Formed, FormedMethods, FormedText, operand}
 use Rattle.grammar.specs.Machine.{Target, write, Callee, call, Bracket, Context, room, Stage, State, with_method}
 use Rattle.grammar.proofs.Tokens.{names-last, methods-last, formed-last}

@@ -1,6 +1,5 @@
 -- A tree's tokens, wherever a tree is wanted, lead to the state that has the tree.
 use Rattle.std.proofs.Common.{◌≡◌, ℕ, ◌≤◌, List, [], ◌∷◌, ◌++◌, sym, refl, ap, ◌∙◌, subst, append_assoc, append-nil, arith}
-use mathlib.Core.Option.{none}
 use Rattle.lexer.specs.Token.{Terminal, identifier, keyword, symbol}
 use Rattle.lexer.specs.declared.token.Keyword.TheVariants as word
 use Rattle.lexer.specs.declared.token.Symbol.TheVariants as sign

@@ -4,7 +4,7 @@ use mathlib.Core.Option.{Option, none, some}
 use Rattle.lexer.specs.Token.{Terminal, identifier, keyword, symbol}
 use Rattle.lexer.specs.declared.token.Keyword.TheVariants as word
 use Rattle.lexer.specs.declared.token.Symbol.TheVariants as sign
-use Rattle.grammar.specs.Tree.{Expr, Args, Class, Bare, BareArgs, BareClass}
+use Rattle.grammar.specs.Tree.{Expr, Args, Bare, BareArgs, BareClass}
 use Rattle.grammar.specs.Grammar.{Kind, toks, arg_toks, lead_toks, name_toks, methods_toks, level, Formed, FormedArgs, FormedMethods, operand, test, item, sequence}
 use Rattle.grammar.specs.Role.{Role, Leaf, Opening, Joint, Stop, role, leaf_tree, code, on}
 use Rattle.grammar.specs.Machine.{Target, target_of, Callee, call, Bracket, Context, room, Stage, State, closes, ending, next, assign, opens, joins, begins, follows, naming, only, either, argues, lists, defines, takes, step}

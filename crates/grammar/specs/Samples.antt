@@ -1,5 +1,5 @@
 -- Worked examples of the grammar and the measures. Assumes nothing.
-use Rattle.std.specs.Prelude.{◌≡◌, ℕ, List, [], ◌∷◌, length, pos, codes}
+use Rattle.std.specs.Prelude.{◌≡◌, [], ◌∷◌, length, pos, codes}
 use Rattle.lexer.specs.Token.{Terminal, identifier, integer, keyword, symbol}
 use Rattle.lexer.specs.declared.token.Keyword.TheVariants as word
 use Rattle.lexer.specs.declared.token.Symbol.TheVariants as sign

@@ -12,7 +12,7 @@ use Rattle.machine.specs.State.{Registers, write, Frame, World, with_tables, wit
 use Rattle.machine.specs.Operands.{value_at, table_at, is_zero, arith_at, same_at, ordered_at, kind_at, key_at, has_key_at, global_at}
 use Rattle.machine.specs.Step.{into, jump, holds_global, set_global, make_table, set_key, exec}
 use Rattle.operands.specs.Answering.{answer_of}
-use Rattle.instructions.specs.Local.{Local, set_at, into_at, jump_from, if_zero_from, set_global_at, make_at, set_key_at, act, answer_or, local, Stays}
+use Rattle.instructions.specs.Local.{Local, set_at, into_at, jump_from, if_zero_from, set_global_at, make_at, set_key_at, act, local, Stays}
 
 bind-bind : {A B C : Type 0} (x : Outcome A) (f : A → Outcome B) (g : B → Outcome C) → (x >>= f) >>= g ≡ x >>= (λ a. f a >>= g)
 bind-bind (Ok a) f g = refl

@@ -1,22 +1,21 @@
 -- A token that is written somewhere is the one that the definition finds, and none there is longer. Assumes nothing.
-use Rattle.std.proofs.Common.{◌≡◌, ℕ, zero, suc, ◌+◌, ◌<◌, ◌≤◌, Bool, true, false, cond, ◌&&◌, ◌||◌, eqb, ltb, ◌⊎◌, List, [], ◌∷◌, ◌++◌, length, get_or, drop, Some, None, Option, sym, refl, ap, ◌∙◌, inl, inr, arith}
+use Rattle.std.proofs.Common.{◌≡◌, ℕ, ◌<◌, Bool, true, false, cond, ◌&&◌, eqb, ltb, ◌⊎◌, List, [], ◌∷◌, ◌++◌, length, get_or, Some, None, Option, refl, ap, ◌∙◌, inl, inr, arith}
 use Rattle.std.specs.List.{AllByRecursion as All}
 use Rattle.std.specs.Str.{bytes_eq}
-use Rattle.std.proofs.lemmas.List.{append_assoc, append-nil, length-append}
-use Rattle.std.proofs.lemmas.Bool.{and_left, lt-ltb, eqb-true, eq-eqb, and_parts}
+use Rattle.std.proofs.lemmas.List.{append_assoc, length-append}
+use Rattle.std.proofs.lemmas.Bool.{and_left, lt-ltb, eqb-true, and_parts}
 use Rattle.std.proofs.lemmas.Bool.Decides.{nat_tests}
 use Rattle.lexer.specs.declared.token.Keyword.{Keyword}
 use Rattle.lexer.specs.declared.token.Keyword.TheVariants.{Class, Begin, End, Def, If, Then, Else, While, Do, New, InstanceOf, SelfWord, Nil}
-use Rattle.lexer.specs.declared.byte.ByteKind.{ByteKind}
-use Rattle.lexer.specs.declared.byte.ByteKind.TheVariants.{Blank, Identifying, Minus, Digit, At, Quote, Sign, Stray}
-use Rattle.lexer.specs.declared.byte.Run.TheVariants.{Identifier, Digits, Quoted}
-use Rattle.lexer.specs.Byte.{between, blank, digit, identifying, goes_on, kind_of}
+use Rattle.lexer.specs.declared.byte.ByteKind.TheVariants.{Identifying, Minus}
+use Rattle.lexer.specs.declared.byte.Run.TheVariants.{Quoted}
+use Rattle.lexer.specs.Byte.{between, digit, identifying, goes_on}
 use Rattle.lexer.specs.Keyword.{word, keywords, among, keyword_of}
 use Rattle.lexer.specs.Token.{Terminal, identifier, integer, field, string, keyword, symbol, spelling, sign}
-use Rattle.lexer.specs.Lexing.{front, worded, named, word_of, integer_of, minus_of, field_of, string_of, begun, first}
-use Rattle.lexer.specs.Law.{Word, Number, Free, Formed, goes_with, Stops, Begins}
+use Rattle.lexer.specs.Lexing.{worded, named, word_of, integer_of, begun, first}
+use Rattle.lexer.specs.Law.{Word, Free, Formed, goes_with, Stops, Begins}
 use Rattle.lexer.proofs.ByteKinds.{identifying-no-digit, kind-of-identifying, kind-of-digit, kind-of-sign}
-use Rattle.lexer.proofs.Runs.{front-is, front-at-least, stops-never, stops_first, stops_second}
+use Rattle.lexer.proofs.Runs.{front-is, stops-never, stops_first, stops_second}
 
 -- every keyword is of small letters
 abbrev small : List ℕ → Bool

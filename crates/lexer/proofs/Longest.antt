@@ -1,14 +1,14 @@
 -- No token could have been longer. Assumes nothing.
-use Rattle.std.proofs.Common.{◌≡◌, ℕ, zero, suc, ◌+◌, ◌<◌, ◌≤◌, Bool, true, false, cond, eqb, ◌⊎◌, List, [], ◌∷◌, ◌++◌, length, get_or, Some, None, Option, sym, refl, ap, ◌∙◌, inl, inr, arith}
+use Rattle.std.proofs.Common.{◌≡◌, ℕ, suc, ◌≤◌, Bool, true, false, cond, eqb, List, [], ◌∷◌, ◌++◌, length, get_or, Some, None, Option, sym, refl, ap, ◌∙◌, arith}
 use Rattle.std.specs.List.{AllByRecursion as All}
 use Rattle.std.proofs.lemmas.List.{append_assoc}
 use Rattle.std.proofs.lemmas.Bool.{eqb-true, false≢true}
 use Rattle.lexer.specs.declared.token.Keyword.{Keyword}
 use Rattle.lexer.specs.declared.byte.ByteKind.TheVariants.{Identifying, Minus}
-use Rattle.lexer.specs.Byte.{digit, identifying, kind_of}
+use Rattle.lexer.specs.Byte.{digit, identifying}
 use Rattle.lexer.specs.Keyword.{word, keyword_of}
 use Rattle.lexer.specs.Token.{Terminal, identifier, integer, field, string, keyword, symbol, spelling, sign}
-use Rattle.lexer.specs.Lexing.{front, named, word_of, integer_of, minus_of, begun, first}
+use Rattle.lexer.specs.Lexing.{front, named, word_of, integer_of, begun, first}
 use Rattle.lexer.specs.Law.{Word, Formed, Begins}
 use Rattle.lexer.proofs.ByteKinds.{identifying-no-digit, kind-of-identifying, kind-of-sign}
 use Rattle.lexer.proofs.Placing.{length-worded}

@@ -1,15 +1,14 @@
 -- What is left of a text, one token on. Assumes nothing.
-use Rattle.std.proofs.Common.{◌≡◌, ℕ, ◌+◌, ◌-◌, ◌<◌, ◌≤◌, Bool, true, false, cond, List, [], ◌∷◌, ◌++◌, length, drop, Some, None, Option, sym, refl, ap, ◌∙◌, subst, ⊎_elim, add-zero, arith}
+use Rattle.std.proofs.Common.{◌≡◌, ℕ, ◌+◌, ◌<◌, ◌≤◌, Bool, true, false, List, [], ◌∷◌, ◌++◌, length, drop, Some, None, Option, sym, refl, ap, ◌∙◌, subst, ⊎_elim, add-zero, arith}
 use Rattle.std.proofs.lemmas.List.{drop-drop, drop_all, drop_at, length-drop, length-append}
 use Rattle.std.proofs.lemmas.Bool.{cases_lt, cond-true, cond-false}
-use Rattle.lexer.specs.declared.byte.Run.TheVariants.{Blanks}
-use Rattle.lexer.specs.Byte.{blank, goes_on}
+use Rattle.lexer.specs.Byte.{blank}
 use Rattle.lexer.specs.Token.{Terminal, spelling}
 use Rattle.lexer.specs.Lexing.{front, first, placed, next, Next}
-use Rattle.lexer.specs.Tokens.{Placed, Tokens, all, stray, before, took, scan, tokens, judged}
+use Rattle.lexer.specs.Tokens.{Placed, Tokens, all, stray, before, took, scan, judged}
 use Rattle.lexer.specs.Law.{Stops, Begins, Reads, here, gap, item, Stuck, stuck, Stands, Inside}
-use Rattle.lexer.proofs.Front.{front-passes, front-stops, front-none}
-use Rattle.lexer.proofs.Placing.{next-end, next-placed, next_past}
+use Rattle.lexer.proofs.Front.{front-passes, front-stops}
+use Rattle.lexer.proofs.Placing.{next-end, next-placed}
 use Rattle.lexer.proofs.Runs.{left, split}
 use Rattle.lexer.proofs.Sound.{first-sound}
 use Rattle.lexer.proofs.Complete.{first-complete}

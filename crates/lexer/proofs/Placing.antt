@@ -1,14 +1,14 @@
 -- What the code cuts out of a text is the token that the definition has there. Assumes nothing.
-use Rattle.std.proofs.Common.{◌≡◌, ℕ, suc, ◌+◌, ◌-◌, ◌<◌, ◌≤◌, Bool, true, false, cond, ltb, List, [], ◌∷◌, ◌++◌, length, get_or, take, drop, is_some, Some, None, Option, sym, refl, ap, ◌∙◌, add-zero, arith}
+use Rattle.std.proofs.Common.{◌≡◌, ℕ, suc, ◌+◌, ◌-◌, ◌<◌, ◌≤◌, Bool, true, false, cond, ltb, List, [], ◌∷◌, length, get_or, take, drop, is_some, Some, None, Option, sym, refl, ap, ◌∙◌, add-zero, arith}
 use Rattle.std.proofs.lemmas.List.{drop_more, at_drop_more, get_or-drop, length-append}
 use Rattle.std.proofs.lemmas.Bool.{lt-ltb, le-ltb}
 use Rattle.lexer.specs.declared.token.Keyword.{Keyword}
-use Rattle.lexer.specs.Keyword.{word, keyword_of}
-use Rattle.lexer.specs.Token.{Terminal, identifier, keyword, field, string, spelling}
+use Rattle.lexer.specs.Keyword.{keyword_of}
+use Rattle.lexer.specs.Token.{Terminal, field, string, spelling}
 use Rattle.lexer.specs.declared.byte.ByteKind.{ByteKind}
-use Rattle.lexer.specs.declared.byte.Run.TheVariants.{Blanks, Digits, Quoted}
+use Rattle.lexer.specs.declared.byte.Run.TheVariants.{Blanks, Quoted}
 use Rattle.lexer.specs.Byte.{digit, goes_on, kind_of}
-use Rattle.lexer.specs.Lexing.{front, worded, named, word_of, integer_of, minus_of, string_of, begun, first, placed, starts, next, Next, token, end, stray}
+use Rattle.lexer.specs.Lexing.{front, worded, named, word_of, integer_of, minus_of, string_of, begun, first, placed, starts, next, token, end}
 use Rattle.lexer.proofs.Front.{take-front}
 use Rattle.lexer.proofs.Keywords.{keyword-spells}
 

@@ -1,10 +1,9 @@
 -- The tokens of a text are what it reads as, and nothing else is. Assumes nothing.
-use Rattle.std.proofs.Common.{◌≡◌, ℕ, zero, suc, pred, ◌+◌, ◌-◌, ◌<◌, ◌≤◌, Bool, true, false, cond, List, [], ◌∷◌, ◌++◌, length, drop, Some, None, Option, sym, refl, ap, ◌∙◌, subst, add-zero, arith}
+use Rattle.std.proofs.Common.{◌≡◌, ℕ, zero, suc, pred, ◌+◌, ◌<◌, ◌≤◌, Bool, true, false, cond, List, [], ◌∷◌, ◌++◌, length, drop, Some, None, Option, sym, refl, ap, ◌∙◌, subst, add-zero, arith}
 use Rattle.std.proofs.lemmas.List.{append_assoc, length-append, drop_at}
-use Rattle.std.proofs.lemmas.Bool.{cond-true, cond-false, false≢true}
-use Rattle.lexer.specs.declared.token.Keyword.{Keyword}
-use Rattle.lexer.specs.Byte.{blank, kind_of}
-use Rattle.lexer.specs.Keyword.{word, keyword_of}
+use Rattle.std.proofs.lemmas.Bool.{cond-true, cond-false}
+use Rattle.lexer.specs.Byte.{blank}
+use Rattle.lexer.specs.Keyword.{keyword_of}
 use Rattle.lexer.specs.Token.{Terminal, identifier, integer, field, string, keyword, symbol, spelling}
 use Rattle.lexer.specs.Lexing.{begun, first}
 use Rattle.lexer.specs.Tokens.{Placed, Tokens, all, stray, before, took, scan, tokens}

@@ -1,18 +1,17 @@
 -- The token that the definition finds is written there, is formed, and goes no further. Assumes nothing.
-use Rattle.std.proofs.Common.{◌≡◌, ℕ, zero, suc, ◌+◌, ◌<◌, ◌≤◌, Bool, true, false, cond, ◌&&◌, ◌||◌, eqb, ltb, ◌⊎◌, List, [], ◌∷◌, ◌++◌, length, get_or, drop, Some, None, Option, sym, refl, ap, ◌∙◌, inl, inr, arith}
-use Rattle.std.specs.List.{AllByRecursion as All}
+use Rattle.std.proofs.Common.{◌≡◌, ℕ, ◌<◌, Bool, true, false, cond, ◌&&◌, eqb, ltb, ◌⊎◌, List, [], ◌∷◌, ◌++◌, length, get_or, Some, None, Option, sym, refl, ap, ◌∙◌, inl, inr, arith}
 use Rattle.std.specs.Str.{bytes_eq}
-use Rattle.std.proofs.lemmas.List.{append_assoc, append-nil, length-append}
+use Rattle.std.proofs.lemmas.List.{append_assoc, length-append}
 use Rattle.std.proofs.lemmas.Bool.{and_left, ltb-true, eqb-true, not-false}
 use Rattle.lexer.specs.declared.token.Keyword.{Keyword}
 use Rattle.lexer.specs.declared.byte.ByteKind.{ByteKind}
 use Rattle.lexer.specs.declared.byte.ByteKind.TheVariants.{Blank, Identifying, Minus, Digit, At, Quote, Sign, Stray}
-use Rattle.lexer.specs.declared.byte.Run.TheVariants.{Identifier, Digits, Quoted}
+use Rattle.lexer.specs.declared.byte.Run.TheVariants.{Quoted}
 use Rattle.lexer.specs.Byte.{digit, identifying, goes_on, kind_of}
-use Rattle.lexer.specs.Keyword.{word, keyword_of}
-use Rattle.lexer.specs.Token.{Terminal, identifier, integer, field, string, keyword, symbol, spelling, sign}
-use Rattle.lexer.specs.Lexing.{front, worded, named, word_of, integer_of, minus_of, field_of, string_of, begun, first}
-use Rattle.lexer.specs.Law.{Word, Number, Free, Formed, goes_with, Stops, Begins}
+use Rattle.lexer.specs.Keyword.{keyword_of}
+use Rattle.lexer.specs.Token.{Terminal, field, string, symbol}
+use Rattle.lexer.specs.Lexing.{front, worded, named, word_of, integer_of, minus_of, begun, first}
+use Rattle.lexer.specs.Law.{Stops, Begins}
 use Rattle.lexer.proofs.Front.{front-passes, front-stops, front-none}
 use Rattle.lexer.proofs.Keywords.{keyword-spells}
 use Rattle.lexer.proofs.ByteKinds.{Tells, kind-tells}

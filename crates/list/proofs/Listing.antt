@@ -1,5 +1,5 @@
 -- The layout of the list store: a list of keys beside a list of values. Assumes nothing.
-use Rattle.std.proofs.Common.{◌≡◌, ℕ, zero, suc, ◌+◌, ◌<◌, ◌≤◌, Bool, true, false, cond, List, [], ◌∷◌, ◌++◌, length, get_or, take, set, Some, None, Option, sym, refl, ap, ◌∙◌, subst, arith}
+use Rattle.std.proofs.Common.{◌≡◌, ℕ, zero, suc, ◌+◌, ◌<◌, ◌≤◌, true, false, cond, List, [], ◌∷◌, ◌++◌, length, get_or, take, set, Some, None, Option, sym, refl, ap, ◌∙◌, subst, arith}
 use lib.Seq.{take-set-lt}
 use Rattle.std.specs.List.{AllByRecursion as All}
 use Rattle.std.proofs.ByRecursion.{All-weaker, All-set, All-push, All-get_or}
@@ -16,7 +16,7 @@ use Rattle.store.specs.Tables.{Tables, pairs, made, read, write}
 use Rattle.store.specs.Filed.{Filed, place_of, same_place, fits, Files}
 use Rattle.list.specs.Listed.{filed, Holds, Inside}
 use Rattle.store.specs.ValuesLemmas.{meaning-grown}
-use Rattle.store.proofs.Rows.{file, file-found, file-none}
+use Rattle.store.proofs.Rows.{file-found, file-none}
 use Rattle.store.proofs.Filing.{files-none, files-length, files-pairs, files-make, files-found, files-nothing, files-file}
 
 module _ (m : Memory) where

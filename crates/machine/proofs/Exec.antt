@@ -1,5 +1,5 @@
 -- One step of the machine, outcome by outcome: `do-` where the run goes on, `end-` where it ends.
-use Rattle.std.proofs.Common.{◌≡◌, ℕ, zero, suc, ◌+◌, ◌-◌, ◌<◌, ◌≤◌, true, false, List, [], ◌∷◌, ◌++◌, length, ℤ, pos, negsuc, ◌+ℤ◌, is_some, Some, None, Ok, Err, Option, sym, refl, ap, ◌∙◌, arith}
+use Rattle.std.proofs.Common.{◌≡◌, ℕ, suc, ◌+◌, ◌-◌, ◌<◌, ◌≤◌, true, false, List, [], ◌∷◌, ◌++◌, length, ℤ, pos, negsuc, ◌+ℤ◌, is_some, Some, None, Ok, Err, ap, arith}
 use Rattle.std.proofs.lemmas.Int.{ints}
 use Rattle.std.proofs.lemmas.Bool.{lt-ltb, le-ltb}
 use Rattle.store.specs.Val.{Val, equal_val}
@@ -12,14 +12,14 @@ use Rattle.machine.specs.declared.builtin.Builtin.{Builtin}
 use Rattle.machine.specs.declared.ending.Ending.{Ending}
 use Rattle.machine.specs.declared.ending.Ending.TheVariants.{Finished, NoTableSpace, NoFrameSpace, Stuck}
 use Rattle.machine.specs.Limits.{registers_per_frame, most_frames, Limits}
-use Rattle.machine.specs.Outcome.{Outcome, ◌>>=◌, need}
+use Rattle.machine.specs.Outcome.{Outcome}
 use Rattle.machine.specs.Arith as arithmetic
 use Rattle.machine.specs.Arith.{in_order}
 use Rattle.machine.specs.Effects.{Effects}
 use Rattle.machine.specs.Builtin.{builtin_of, apply}
 use Rattle.machine.specs.Instr.{Instr, Program, fetch}
-use Rattle.machine.specs.State.{Registers, read, write, passed, Frame, frame, World, with_tables, with_globals, with_effects, State, at, Next, goes, ends}
-use Rattle.machine.specs.Operands.{values_from, truth, is_zero, is_of}
+use Rattle.machine.specs.State.{Registers, write, passed, Frame, frame, World, with_tables, with_globals, with_effects, State, at, goes, ends}
+use Rattle.machine.specs.Operands.{truth, is_zero, is_of}
 use Rattle.machine.specs.Step.{holds_global, halted, next_of, exec, step}
 use Rattle.machine.proofs.Judge.{Has, Hold, Fetch, Step}
 use Rattle.machine.proofs.Registers.{values-held}

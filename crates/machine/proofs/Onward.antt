@@ -1,5 +1,5 @@
 -- Each step leads onward: frames, tables, and what is made and printed.
-use Rattle.std.proofs.Common.{◌≡◌, ℕ, zero, suc, ◌+◌, ◌-◌, ◌<◌, ◌≤◌, Bool, true, false, cond, ltb, leb, ◌⊎◌, List, [], ◌∷◌, ◌++◌, length, get_or, set, ℤ, pos, ◌+ℤ◌, is_some, Some, None, Ok, Err, Option, Result, sym, refl, ap, ◌∙◌, subst, inl, inr, ⊎_elim, arith}
+use Rattle.std.proofs.Common.{◌≡◌, ℕ, zero, suc, ◌-◌, ◌<◌, ◌≤◌, Bool, true, false, cond, ltb, ◌⊎◌, List, [], ◌∷◌, ◌++◌, length, get_or, ℤ, pos, ◌+ℤ◌, is_some, Some, None, Ok, Err, Option, Result, sym, refl, ap, ◌∙◌, subst, inl, inr, ⊎_elim, arith}
 use Rattle.std.proofs.lemmas.List.{append-nil, append_assoc, length-append, length-set, get_or_append_left, get_or_past, get_or-set_same, get_or-set_other, set_past}
 use Rattle.std.proofs.lemmas.Bool.{leb-true, cases_eq, cases_lt, false≢true}
 use Rattle.store.specs.Val.{Val, equal_val}
@@ -18,7 +18,7 @@ use Rattle.machine.specs.State.{Registers, Frame, frame, World, State, at, world
 use Rattle.machine.specs.Operands.{value_at, table_at, function_at, values_from, is_zero}
 use Rattle.machine.specs.Step.{landing, into, jump, set_global, make_table, set_key, invoke, return, exec, next_of, step}
 use Rattle.machine.specs.Run.{then, run}
-use Rattle.machine.specs.Law.{Grows, Keeps, Moves, within, enters, leaves, Onward, Determined, LeadsOnward, EndsWithout, effects_of, RunsGrow}
+use Rattle.machine.specs.Law.{Grows, Keeps, within, enters, leaves, Onward, Determined, LeadsOnward, EndsWithout, effects_of, RunsGrow}
 
 -- P holds of the result, if there is one
 pub data Each {A : Type 0} (P : A → Type 0) : Result A Ending → Type 0 where

@@ -1,12 +1,12 @@
 -- The laws of reading and writing registers.
-use Rattle.std.proofs.Common.{◌≡◌, ℕ, zero, suc, ◌+◌, ◌-◌, ◌<◌, ◌≤◌, ◌≢◌, List, [], ◌∷◌, ◌++◌, map, length, set, replicate, Some, None, Ok, sym, refl, ap, ◌∙◌, arith}
+use Rattle.std.proofs.Common.{◌≡◌, ℕ, zero, suc, ◌-◌, ◌<◌, ◌≤◌, ◌≢◌, List, [], ◌∷◌, ◌++◌, map, length, set, replicate, Some, None, Ok, refl, ap, arith}
 use Rattle.std.proofs.lemmas.List.{length-append, length-map, length-replicate}
 use Rattle.std.specs.List.{slice_get}
 use Rattle.store.specs.Val.{Val}
 use Rattle.machine.specs.Limits.{registers_per_frame}
 use Rattle.machine.specs.State.{Registers, read, write, passed}
 use Rattle.machine.specs.Operands.{values_from}
-use Rattle.machine.proofs.Judge.{Has, Hold, none, more}
+use Rattle.machine.proofs.Judge.{Hold, none, more}
 
 pub read-written : (R : Registers) (a : ℕ) (v : Val) → read (write R a v) a ≡ Some v
 unfolding write

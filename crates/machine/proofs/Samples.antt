@@ -1,16 +1,16 @@
 -- The definitions at work on small cases.
-use Rattle.std.proofs.Common.{◌≡◌, List, [], ◌∷◌, pos, negsuc, Some, Ok, Err, codes, refl}
+use Rattle.std.proofs.Common.{◌≡◌, [], ◌∷◌, pos, negsuc, Ok, Err, codes, refl}
 use Rattle.std.specs.Fmt.{digits}
 use Rattle.std.specs.Int.{int_wrap}
 use Rattle.store.specs.Val.{Val}
-use Rattle.machine.specs.declared.arith.Op.TheVariants.{Add, Sub, Mul, Div}
+use Rattle.machine.specs.declared.arith.Op.TheVariants.{Add, Mul, Div}
 use Rattle.machine.specs.declared.ending.Ending.TheVariants.{Finished, DivisionByZero, NoOutputSpace, Stuck}
 use Rattle.machine.specs.Limits.{Limits}
 use Rattle.machine.specs.Arith.{arith}
-use Rattle.machine.specs.Effects.{Effects, charge, print, nothing_yet}
+use Rattle.machine.specs.Effects.{charge, print, nothing_yet}
 use Rattle.machine.specs.Builtin.{apply}
 use Rattle.machine.specs.Instr.{Instr, Program, fetch}
-use Rattle.machine.specs.State.{write, passed, Next, ends, initial}
+use Rattle.machine.specs.State.{write, passed, ends, initial}
 use Rattle.machine.specs.Operands.{values_from}
 use Rattle.machine.specs.Step.{exec, step}
 use Rattle.machine.specs.Run.{run, steps_made}

@@ -1,5 +1,5 @@
 -- Integers of 32 bits: one arithmetic for the machine and for the language. Assumes nothing.
-use Rattle.std.specs.Prelude.{ℕ, zero, suc, Bool, true, false, ℤ, pos, negsuc, ◌+ℤ◌, ◌-ℤ◌, ◌*ℤ◌, Ok, Err, int_div, int_le, int_lt}
+use Rattle.std.specs.Prelude.{zero, suc, Bool, ℤ, pos, negsuc, ◌+ℤ◌, ◌-ℤ◌, ◌*ℤ◌, Ok, Err, int_div, int_le, int_lt}
 use Rattle.std.specs.Int.{int_wrap, w32}
 use Rattle.machine.specs.declared.ending.Ending.TheVariants.{DivisionByZero}
 use Rattle.machine.specs.declared.arith.Op.{Op}

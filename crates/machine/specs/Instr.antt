@@ -1,5 +1,5 @@
 -- Instructions over values: what an instruction of the code means. Assumes nothing.
-use Rattle.std.specs.Prelude.{ℕ, List, [], map, ℤ, Some, None, Option, slice_index_or}
+use Rattle.std.specs.Prelude.{ℕ, List, [], ℤ, Some, None, Option, slice_index_or}
 use Rattle.std.specs.List.{slice_get}
 use Rattle.text.specs.Memory.{Memory}
 use Rattle.store.specs.Val.{Val, meaning}

@@ -1,5 +1,5 @@
 -- One step of the machine. A step that has no rule is stuck, and that is asked before any want of space. Assumes nothing.
-use Rattle.std.specs.Prelude.{ℕ, suc, ◌-◌, Bool, true, cond, ◌||◌, List, [], ◌∷◌, ◌++◌, length, ℤ, pos, negsuc, ◌+ℤ◌, is_some, Some, None, Ok, Err, Option, nat_lt, slice_index_or}
+use Rattle.std.specs.Prelude.{ℕ, suc, ◌-◌, Bool, cond, ◌||◌, List, [], ◌∷◌, ◌++◌, length, ℤ, pos, negsuc, ◌+ℤ◌, is_some, Some, None, Ok, Err, Option, nat_lt, slice_index_or}
 use Rattle.store.specs.Val.{Val}
 use Rattle.store.specs.Tables as store
 use Rattle.store.specs.Tables.{Table, look, put, takes}

@@ -1,5 +1,5 @@
 -- Trees in a node table. Assumes nothing.
-use Rattle.std.specs.Prelude.{◌≡◌, List, ℕ, ◌+◌, ◌-◌, ◌%◌, ◌^◌, ◌<◌, ◌≤◌, length, slice_index, slice_index_or}
+use Rattle.std.specs.Prelude.{◌≡◌, List, ℕ, ◌+◌, ◌-◌, ◌%◌, ◌^◌, ◌<◌, length, slice_index, slice_index_or}
 use Rattle.text.specs.declared.span.Space.TheVariants.{Texts}
 use Rattle.text.specs.declared.span.Span.{Span}
 use Rattle.text.specs.Memory.{Memory, bytes_of}

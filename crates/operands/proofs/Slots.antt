@@ -1,5 +1,5 @@
 -- Registers and what they mean.
-use Rattle.std.proofs.Common.{◌≡◌, ℕ, zero, suc, ◌<◌, ◌≤◌, Bool, List, [], ◌∷◌, length, get_or, set, Some, None, Ok, Err, Decides, Option, sym, refl, ap, ◌∙◌, subst, inl, inr, arith}
+use Rattle.std.proofs.Common.{◌≡◌, ℕ, zero, suc, ◌<◌, ◌≤◌, Bool, List, [], ◌∷◌, length, get_or, set, Some, None, Ok, Decides, Option, sym, refl, ap, ◌∙◌, inl, inr, arith}
 use Rattle.std.proofs.lemmas.List.{length-map, map-set, get_or-set_same, get_or-set_other}
 use Rattle.std.proofs.lemmas.Bool.{cases_eq}
 use Rattle.std.proofs.lemmas.Bool.Decides.{same_from_decides}
@@ -8,12 +8,11 @@ use Rattle.store.specs.declared.value.Value.{Value}
 use Rattle.store.specs.Val.{Val, equal_val, meaning, end_of}
 use Rattle.store.specs.Answers.{meant}
 use Rattle.store.specs.ValuesLemmas.{decides-val}
-use Rattle.machine.specs.declared.ending.Ending.TheVariants.{Stuck}
 use Rattle.machine.specs.Outcome.{Outcome, need}
 use Rattle.machine.specs.State.{Registers, read, write}
 use Rattle.machine.proofs.Registers.{write-within}
 use Rattle.machine.specs.Operands.{value_at, truth, same_at}
-use Rattle.operands.specs.Slots.{registers_of, answered, slot_end, Within, EndsBy}
+use Rattle.operands.specs.Slots.{registers_of, Within}
 
 -- a register means what its slot means
 pub read-slot : (m : Memory) (xs : List (Option Value)) (i : ℕ) → read (registers_of m xs) i ≡ meant m (get_or xs i None)

@@ -1,5 +1,5 @@
 -- What the instructions on tables answer, told by what the store answers.
-use Rattle.std.proofs.Common.{◌≡◌, ℕ, ◌≤◌, Bool, true, false, is_some, Some, None, Ok, Err, Option, sym, refl, ap, ◌∙◌, arith}
+use Rattle.std.proofs.Common.{◌≡◌, ℕ, ◌≤◌, Bool, true, false, is_some, Some, None, Ok, Err, Option, arith}
 use Rattle.store.specs.declared.value.Value.{Value}
 use Rattle.store.specs.Val.{Val}
 use Rattle.store.specs.Answers.{ReadsWithin}

@@ -1,5 +1,5 @@
 -- The instructions that answer a value for a register, and what they answer. Assumes nothing.
-use Rattle.std.specs.Prelude.{◌≡◌, ℕ, ◌≤◌, Some, None, Ok, Option}
+use Rattle.std.specs.Prelude.{ℕ, Some, None, Ok, Option}
 use Rattle.text.specs.Memory.{Memory}
 use Rattle.store.specs.Val.{Val, end_of}
 use Rattle.store.specs.Tables.{Table, Tables}

@@ -2,7 +2,6 @@
 use Rattle.std.specs.Prelude.{◌≡◌, ℕ, ◌<◌, ◌≤◌, Bool, true, false, List, [], ◌∷◌, take, slice_index_or}
 use Rattle.text.specs.Memory.{Memory}
 use Rattle.store.specs.declared.value.Value.{Value}
-use Rattle.store.specs.declared.value.Value.TheVariants.{Int}
 use Rattle.store.specs.Val.{Val, meaning, end_of}
 use Rattle.store.specs.Tables.{Table, put}
 use Rattle.machine.specs.Step.{holds_global}

@@ -1,8 +1,8 @@
 -- More clock changes nothing. Assumes nothing.
-use Rattle.std.proofs.Common.{◌≡◌, ℕ, zero, suc, ◌+◌, ◌≤◌, Bool, true, false, cond, not, eqb, List, [], ◌∷◌, ◌++◌, length, Some, None, codes, Option, sym, refl, ap, ◌∙◌, subst, add_comm, arith}
+use Rattle.std.proofs.Common.{◌≡◌, ℕ, zero, suc, ◌+◌, Bool, true, false, cond, not, eqb, List, [], length, Some, None, codes, Option, subst, add_comm, arith}
 use Rattle.std.specs.Str.{bytes_eq}
 use Rattle.store.specs.Val.{Val}
-use Rattle.grammar.specs.Tree.{Expr, Args, Method}
+use Rattle.grammar.specs.Tree.{Expr, Args}
 use Rattle.machine.specs.declared.ending.Ending.{Ending}
 use Rattle.machine.specs.Builtin.{string_in}
 use Rattle.rube.specs.Methods.{argument}

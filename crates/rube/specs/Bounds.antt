@@ -1,6 +1,6 @@
 -- How many steps and how much code a rule may take. Assumes nothing.
-use Rattle.std.specs.Prelude.{ℕ, ◌+◌, ◌*◌, List, [], ◌∷◌}
-use Rattle.grammar.specs.Tree.{Expr, Class}
+use Rattle.std.specs.Prelude.{ℕ, ◌+◌, ◌*◌, [], ◌∷◌}
+use Rattle.grammar.specs.Tree.{Expr}
 use Rattle.grammar.specs.Measure.{nodes, method_nodes}
 use Rattle.rube.specs.Classes.{Classes, added_methods, class_count, pair_count}
 

@@ -1,5 +1,5 @@
 -- Classes and the methods that they find. Assumes nothing.
-use Rattle.std.specs.Prelude.{ℕ, suc, ◌+◌, Bool, true, false, cond, not, ◌||◌, List, [], ◌∷◌, ◌++◌, map, reverse, length, Some, None, Option}
+use Rattle.std.specs.Prelude.{ℕ, suc, ◌+◌, Bool, false, cond, ◌||◌, List, [], ◌∷◌, ◌++◌, map, reverse, length, Some, None, Option}
 use Rattle.std.specs.Str.{bytes_eq}
 use Rattle.grammar.specs.Tree.{Method, Class}
 use Rattle.rube.specs.declared.builtin.Operation.{Operation}

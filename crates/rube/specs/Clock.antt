@@ -1,5 +1,5 @@
 -- The clock does not matter once it suffices. Assumes nothing.
-use Rattle.std.specs.Prelude.{◌≡◌, ℕ, suc, ◌+◌, Some, Option}
+use Rattle.std.specs.Prelude.{◌≡◌, ℕ, ◌+◌, Some}
 use Rattle.grammar.specs.Tree.{Expr}
 use Rattle.rube.specs.Heap.{Setting}
 use Rattle.rube.specs.Meaning.{Ended, ended, meaning, Ends}

@@ -1,5 +1,5 @@
 -- Objects and the space that they take. Assumes nothing.
-use Rattle.std.specs.Prelude.{ℕ, suc, ◌+◌, Bool, true, false, cond, ◌&&◌, List, [], ◌∷◌, ◌++◌, length, pos, is_some, Some, None, codes, Option, nat_le, slice_index_or, slice_set}
+use Rattle.std.specs.Prelude.{ℕ, suc, ◌+◌, Bool, cond, ◌&&◌, List, [], ◌∷◌, length, pos, is_some, codes, nat_le, slice_index_or, slice_set}
 use Rattle.store.specs.Val.{Val, equal_val}
 use Rattle.store.specs.Tables.{Table, look, put}
 use Rattle.machine.specs.Limits.{Limits}

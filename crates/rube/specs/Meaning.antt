@@ -1,23 +1,13 @@
 -- What a rule means. The clock falls where a method is entered and where a loop goes round. Assumes nothing.
-use Rattle.std.specs.Prelude.{◌≡◌, ℕ, zero, suc, ◌+◌, ◌*◌, Bool, true, false, cond, not, List, [], ◌∷◌, ◌++◌, length, pos, Some, None, codes, Option, ◌==◌, slice_index_or}
+use Rattle.std.specs.Prelude.{◌≡◌, ℕ, zero, suc, cond, not, List, [], ◌∷◌, ◌++◌, length, pos, Some, None, codes, Option, ◌==◌, slice_index_or}
 use Rattle.std.specs.Str.{bytes_eq}
 use Rattle.store.specs.Val.{Val}
 use Rattle.store.specs.Tables.{Table, look, put}
 use Rattle.machine.specs.declared.ending.Ending.{Ending}
-use Rattle.machine.specs.declared.ending.Ending.TheVariants.{
-  Finished,
-  NoSuchMethod,
-  NoSuchClass,
-  CannotInstantiateBot,
-  UnboundLocal,
-  WrongArgumentCount,
-  WrongArgumentKind,
-  NoTableSpace,
-  NoFrameSpace,
-}
-use Rattle.machine.specs.Effects.{Effects, nothing_yet, print}
+use Rattle.machine.specs.declared.ending.Ending.TheVariants.{Finished, NoSuchMethod, NoSuchClass, CannotInstantiateBot, UnboundLocal, WrongArgumentCount, NoTableSpace, NoFrameSpace}
+use Rattle.machine.specs.Effects.{nothing_yet, print}
 use Rattle.machine.specs.Builtin.{string_in}
-use Rattle.grammar.specs.Tree.{Expr, Args, Method}
+use Rattle.grammar.specs.Tree.{Expr, Args}
 use Rattle.grammar.specs.Measure.{value_of}
 use Rattle.rube.specs.Classes.{Callee, parameter_count, lookup, known}
 use Rattle.rube.specs.Heap.{Cell, Heap, Setting, nil, top_self, first_heap, is_nil, truth, class_of, fields_of, fits, new_pairs, put_at}

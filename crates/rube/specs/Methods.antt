@@ -1,10 +1,10 @@
 -- What the built-in methods do. Their arguments are as many as the table says. Assumes nothing.
-use Rattle.std.specs.Prelude.{ℕ, suc, List, [], ◌∷◌, ◌++◌, length, get_or, ℤ, pos, is_some, Some, None, Ok, Err, codes, Option, Result}
+use Rattle.std.specs.Prelude.{ℕ, suc, List, ◌++◌, length, pos, is_some, Some, None, Ok, Err, codes, Option, Result}
 use Rattle.std.specs.Fmt.{signed_decimal}
 use Rattle.store.specs.Val.{Val, equal_val}
-use Rattle.store.specs.Tables.{Table, look}
+use Rattle.store.specs.Tables.{look}
 use Rattle.machine.specs.declared.ending.Ending.{Ending}
-use Rattle.machine.specs.declared.ending.Ending.TheVariants.{WrongArgumentKind, NoSuchKey, NoTableSpace, Stuck}
+use Rattle.machine.specs.declared.ending.Ending.TheVariants.{WrongArgumentKind, NoSuchKey, NoTableSpace}
 use Rattle.machine.specs.Effects.{charge, print}
 use Rattle.machine.specs.Arith.{arith}
 use Rattle.machine.specs.Builtin.{integer_in, string_in, shown}

@@ -1,14 +1,12 @@
 -- Sample rules, from the bytes of their texts to how they end. Assumes nothing.
-use Rattle.std.specs.Prelude.{◌≡◌, ℕ, ◌+◌, ◌*◌, List, [], ◌∷◌, map, length, Some, None, codes, Option}
+use Rattle.std.specs.Prelude.{◌≡◌, ℕ, List, [], ◌∷◌, map, Some, None, codes, Option}
 use Rattle.std.specs.List.{AllByRecursion as All}
-use Rattle.lexer.specs.Token.{Terminal}
-use Rattle.lexer.specs.Tokens.{Placed, Tokens, tokens}
+use Rattle.lexer.specs.Tokens.{Tokens, tokens}
 use Rattle.machine.specs.declared.ending.Ending.{Ending}
 use Rattle.machine.specs.declared.ending.Ending.TheVariants.{Finished, NoSuchMethod, UnboundLocal, WrongArgumentCount, WrongArgumentKind}
-use Rattle.grammar.specs.Tree.{Expr, Class, Text, Bare, BareClass, BareText}
+use Rattle.grammar.specs.Tree.{Text, Bare, BareClass, BareText}
 use Rattle.grammar.specs.Grammar.{Kind}
 use Rattle.grammar.specs.Machine.{Outcome, parse}
-use Rattle.grammar.specs.Measure.{nodes, method_nodes}
 use Rattle.rube.specs.Classes.{Classes, class_count, pair_count}
 use Rattle.rube.specs.Heap.{Setting}
 use Rattle.rube.specs.Meaning.{Ended, ended, meaning}

@@ -1,5 +1,5 @@
 -- Tables filed as one list of pairs: make, read and write on the list are those of the tables. Assumes nothing.
-use Rattle.std.proofs.Common.{◌≡◌, ℕ, zero, suc, ◌+◌, ◌<◌, ◌≤◌, Bool, true, false, cond, eqb, List, [], ◌∷◌, ◌++◌, map, length, get_or, set, Some, None, Option, sym, refl, ap, ◌∙◌, subst, ⊎_elim, arith}
+use Rattle.std.proofs.Common.{◌≡◌, ℕ, zero, suc, ◌+◌, ◌<◌, ◌≤◌, Bool, true, false, cond, List, [], ◌∷◌, ◌++◌, map, length, get_or, set, Some, None, sym, refl, ap, ◌∙◌, ⊎_elim, arith}
 use Rattle.std.specs.List.{range_with_len, AllByRecursion as All}
 use Rattle.std.proofs.lemmas.List.FromFn.{length-map-range_with_len, get_or-map-range_with_len, map-range_with_len_more}
 use Rattle.std.proofs.ByRecursion.{All-weaker}
@@ -10,7 +10,7 @@ use Rattle.store.specs.Val.{Val}
 use Rattle.store.specs.Tables.{Table, Tables, look, put, pairs, read, write}
 use Rattle.store.specs.Filed.{Filed, fits, row_of, tables_of, Files}
 use Rattle.store.proofs.Tables.{pairs_set}
-use Rattle.store.proofs.Rows.{file, seek, seek_found, seek-none, look-row, row-file, row-file-other}
+use Rattle.store.proofs.Rows.{file, seek_found, seek-none, look-row, row-file, row-file-other}
 
 -- tables that differ at l only
 tables-differ : (f g : ℕ → Table) (n l : ℕ) → ((j : ℕ) → (j ≡ l → ⊥) → f j ≡ g j) → map f (range_with_len 0 n) ≡ set (map g (range_with_len 0 n)) l (f l)

@@ -1,16 +1,10 @@
 -- The tables of a list of pairs: what is read of them, and what a write does to them. Assumes nothing.
-use Rattle.std.proofs.Common.{◌≡◌, ℕ, zero, suc, ◌+◌, ◌<◌, ◌≤◌, Bool, true, false, cond, ◌&&◌, eqb, List, [], ◌∷◌, ◌++◌, map, length, get_or, set, Some, None, Option, sym, refl, ap, ◌∙◌, subst, ⊎_elim, add-one, arith}
-use Rattle.std.specs.List.{range_with_len, AllByRecursion as All}
-use Rattle.std.proofs.lemmas.List.FromFn.{length-map-range_with_len, get_or-map-range_with_len, map-range_with_len_more}
-use Rattle.std.proofs.ByRecursion.{All-weaker, All-set, All-push}
-use Rattle.std.proofs.lemmas.List.{same_lists, get_or_past, length-set, get_or-set_same, get_or-set_other, length_push}
-use Rattle.std.proofs.lemmas.Bool.{cases_eq, cases_lt, eq-eqb, ne_eqb, eqb-true}
+use Rattle.std.proofs.Common.{◌≡◌, ℕ, suc, ◌+◌, Bool, true, false, cond, ◌&&◌, eqb, List, [], ◌∷◌, ◌++◌, get_or, set, Some, None, Option, sym, refl, ap, ◌∙◌, arith}
+use Rattle.std.proofs.lemmas.Bool.{eq-eqb, ne_eqb, eqb-true}
 use Rattle.text.specs.First.{later, first_place}
-use Rattle.text.specs.Meanings.{not-true}
 use Rattle.store.specs.Val.{Val, equal_val}
-use Rattle.store.specs.Tables.{Table, Tables, look, put, pairs, read, write}
-use Rattle.store.specs.Filed.{Filed, same_place, fits, row_of, tables_of, Files}
-use Rattle.store.specs.ValuesLemmas.{decides-val}
+use Rattle.store.specs.Tables.{Table, look, put}
+use Rattle.store.specs.Filed.{Filed, same_place, fits, row_of}
 
 -- what a write does to the pairs: the first that fits takes the value, else a new one comes last
 unfoldable pub file : ℕ × Val → Val → List ((ℕ × Val) × Val) → List ((ℕ × Val) × Val)

@@ -1,5 +1,5 @@
 -- What a store answers, told by the tables that it holds. Assumes nothing.
-use Rattle.std.specs.Prelude.{◌≡◌, ℕ, ◌<◌, ◌≤◌, Bool, true, false, List, [], ◌∷◌, ◌++◌, length, is_some, Some, None, Ok, Err, Option, Result}
+use Rattle.std.specs.Prelude.{◌≡◌, ℕ, ◌<◌, ◌≤◌, Bool, true, false, [], ◌∷◌, ◌++◌, length, is_some, Some, None, Ok, Err, Option, Result}
 use Rattle.text.specs.Memory.{Memory}
 use Rattle.store.specs.declared.value.Location.{Location}
 use Rattle.store.specs.declared.value.Value.{Value}

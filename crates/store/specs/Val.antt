@@ -1,5 +1,5 @@
 -- What a value means: a string is its bytes, whatever span holds them. Assumes nothing.
-use Rattle.std.specs.Prelude.{ℕ, Bool, true, false, List, ℤ, pos, negsuc, ◌==◌}
+use Rattle.std.specs.Prelude.{ℕ, Bool, false, List, ℤ, pos, negsuc, ◌==◌}
 use Rattle.text.specs.Memory.{Memory, bytes_of, equal_bytes}
 use Rattle.text.specs.Agree.{made_end}
 use Rattle.store.specs.declared.value.Value.{Value}

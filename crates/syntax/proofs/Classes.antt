@@ -1,5 +1,5 @@
 -- A whole class, token by token.
-use Rattle.std.proofs.Common.{◌≡◌, ℕ, ◌<◌, ◌≤◌, List, [], ◌∷◌, map, length, drop, Some, sym, refl, ap, ◌∙◌, subst, arith}
+use Rattle.std.proofs.Common.{◌≡◌, ℕ, ◌≤◌, List, [], ◌∷◌, map, length, Some, sym, refl, ap, ◌∙◌, subst}
 use mathlib.Core.Option.{some}
 use Rattle.lexer.specs.Token.{Terminal, identifier, keyword, symbol}
 use Rattle.lexer.specs.Tokens.{Placed}
@@ -11,7 +11,7 @@ use Rattle.grammar.specs.Tree as tree
 use Rattle.grammar.specs.Grammar.{Kind}
 use Rattle.grammar.specs.Role.{Stop}
 use Rattle.grammar.specs.Machine.{Stage, State, Outcome, step, run, parse}
-use Rattle.grammar.specs.Notes.{forget_text, forget_methods, first, annotate_methods, annotate_text}
+use Rattle.grammar.specs.Notes.{forget_text, first, annotate_text}
 use Rattle.grammar.proofs.Steps.{name-halts, only-halts, either-halts, class-halts}
 use Rattle.nodes.specs.declared.node.Node.{Node}
 use Rattle.nodes.specs.declared.node.Method.{Method}

@@ -1,5 +1,5 @@
 -- Each form of expression, from its parts.
-use Rattle.std.proofs.Common.{◌≡◌, ℕ, suc, ◌+◌, ◌-◌, ◌%◌, ◌^◌, ◌<◌, ◌≤◌, Bool, true, false, List, [], ◌∷◌, map, length, get_or, set, Some, sym, refl, ap, ◌∙◌, subst, arith, length-set}
+use Rattle.std.proofs.Common.{◌≡◌, ℕ, suc, ◌+◌, ◌<◌, ◌≤◌, Bool, true, false, List, [], ◌∷◌, map, length, get_or, set, Some, sym, refl, ap, ◌∙◌, subst, arith, length-set}
 use mathlib.Core.Option.{Option, none, some}
 use Rattle.std.proofs.lemmas.List.{get_or-set_same}
 use Rattle.lexer.specs.Token.{Terminal, identifier, keyword, symbol}
@@ -8,16 +8,15 @@ use Rattle.lexer.specs.declared.token.Keyword.{Keyword}
 use Rattle.lexer.specs.declared.token.Symbol.{Symbol}
 use Rattle.lexer.specs.declared.token.Keyword.TheVariants as word
 use Rattle.lexer.specs.declared.token.Symbol.TheVariants as sign
-use Rattle.text.specs.declared.span.Space.TheVariants.{Texts}
 use Rattle.text.specs.declared.span.Span.{Span}
 use Rattle.text.specs.Memory.{Memory}
 use Rattle.grammar.specs.Tree.{Expr, Args, Bare}
-use Rattle.grammar.specs.Grammar.{level, operand, test, item, sequence}
-use Rattle.grammar.specs.Machine.{Target, write, target_of, Callee, call, Bracket, Context, room, State, Outcome, step, run}
+use Rattle.grammar.specs.Grammar.{level, item}
+use Rattle.grammar.specs.Machine.{Target, write, target_of, Callee, call, Bracket, Context, State, step, run}
 use Rattle.grammar.specs.Role.{role}
 use Rattle.grammar.specs.Following.{First, Calm, Last, NoItem, IdleRole}
-use Rattle.grammar.specs.Notes.{note_of, forget, forget_args, first, annotate, annotate_args}
-use Rattle.grammar.specs.Measure.{nodes, count, names_after, names_after_args, learn}
+use Rattle.grammar.specs.Notes.{note_of, forget, forget_args, first, annotate}
+use Rattle.grammar.specs.Measure.{nodes, count, names_after, names_after_args}
 use Rattle.grammar.proofs.Steps.{goes, semicolon-goes, dot-goes, instance_of-goes, value-ends, rest-ends, calm-above, argument-begins, name-halts, only-halts, bracket-halts, want-halts}
 use Rattle.nodes.specs.declared.node.Node.{Node}
 use Rattle.nodes.specs.declared.node.Form.{Form}
@@ -28,14 +27,14 @@ use Rattle.syntax.specs.declared.read.Size.{Size}
 use Rattle.syntax.specs.declared.sight.Sort.{Sort}
 use Rattle.syntax.specs.declared.sight.Sort.TheVariants as sort
 use Rattle.syntax.specs.Left.{left, terms, places}
-use Rattle.syntax.specs.Sight.{slice, shown, sort_of, head_sort}
+use Rattle.syntax.specs.Sight.{slice, head_sort}
 use Rattle.nodes.specs.Trees.{Lies, span_of, WordAt, at, TreeAt, ArgsAt}
 use Rattle.syntax.specs.declared.read.Target as declared
-use Rattle.syntax.specs.Parsing.{Ahead, target_token, named, meant, Writes, IsTarget, NoWrite, written_form, learn_target, LearnsTarget, Reads, Kept, Built, Parsed, Refused, Operand, Testing, Tested, Item, Sequence, Stored, Arguing, Argued, RefusedArgs, Moves, MovesArgs, Put, With, Closed}
-use Rattle.syntax.specs.Sizes.{around, side_by_side, of_list, Knows, Sized, SizedWithin}
+use Rattle.syntax.specs.Parsing.{Ahead, target_token, named, meant, Writes, IsTarget, NoWrite, written_form, learn_target, LearnsTarget, Reads, Kept, Parsed, Refused, Operand, Testing, Tested, Item, Sequence, Arguing, Argued, RefusedArgs, Moves, MovesArgs, Put, With, Closed}
+use Rattle.syntax.specs.Sizes.{around, side_by_side, of_list, Knows, Sized}
 use Rattle.syntax.proofs.Sizes.{around-sized, seq-sized, while-sized, if-sized, none-sized, nothing-sized, more-sized, list-sized, new-sized, invoke-sized}
 use Rattle.syntax.proofs.Nodes.{kept-all, kept_then, kept_put, put-at, put-length, tree-kept, args-kept, args-below, args-set, word_at}
-use Rattle.syntax.proofs.Reading.{Sees, roomy, never, not_first, no_name, terms-see, places-see, ahead_none, ahead-one, ahead-then, first-noted, noted-then, To, here, on, over, inside, lost, ends, lower, note-if, note-while, note-seq, note-instance_of, note-invoke, note-new, note-set_local, note-set_field, note-first, note-more}
+use Rattle.syntax.proofs.Reading.{Sees, roomy, never, not_first, no_name, terms-see, places-see, ahead_none, ahead-one, ahead-then, first-noted, noted-then, To, here, on, over, inside, lost, ends, note-if, note-while, note-seq, note-instance_of, note-invoke, note-new, note-set_local, note-set_field, note-first, note-more}
 
 -- a token that has to come did not
 abbrev pub Missing : List ℕ → ℕ → Sort → ℕ → Type 0

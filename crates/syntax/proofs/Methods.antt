@@ -1,5 +1,5 @@
 -- Parameters, methods and classes, from their parts.
-use Rattle.std.proofs.Common.{◌≡◌, ℕ, zero, suc, ◌+◌, ◌-◌, ◌*◌, ◌<◌, ◌≤◌, Bool, true, ◌&&◌, ◌≢◌, List, [], ◌∷◌, ◌++◌, map, length, get_or, drop, set, Some, Decides, sym, refl, ap, ◌∙◌, subst, ap₂, ⊎_elim, arith}
+use Rattle.std.proofs.Common.{◌≡◌, ℕ, ◌+◌, ◌-◌, ◌*◌, ◌<◌, ◌≤◌, Bool, true, ◌&&◌, ◌≢◌, List, [], ◌∷◌, ◌++◌, map, length, get_or, drop, set, Some, Decides, sym, refl, ap, ◌∙◌, subst, ap₂, ⊎_elim, arith}
 use mathlib.Core.Option.{some}
 use Rattle.std.proofs.lemmas.List.{drop-drop, length-append, length-set, get_or-set_same, get_or-set_other, get_or_append_left, get_or_push, drop-map}
 use Rattle.std.proofs.lemmas.Bool.{cases_lt}
@@ -12,9 +12,9 @@ use Rattle.text.specs.declared.span.Span.{Span}
 use Rattle.text.specs.Memory.{Memory}
 use Rattle.grammar.specs.Tree.{Expr, Bare, BareClass, BareMethod}
 use Rattle.grammar.specs.Tree as tree
-use Rattle.grammar.specs.Role.{Role, Stop}
-use Rattle.grammar.specs.Machine.{Context, Stage, State, Outcome, step, run, with_method}
-use Rattle.grammar.specs.Notes.{forget, forget_methods, first, annotate, past_names, annotate_method, annotate_methods}
+use Rattle.grammar.specs.Role.{Stop}
+use Rattle.grammar.specs.Machine.{Context, Stage, State, step, run, with_method}
+use Rattle.grammar.specs.Notes.{forget, forget_methods, annotate, past_names, annotate_method, annotate_methods}
 use Rattle.grammar.specs.Measure.{nodes, method_nodes, BodyWithin, MethodsWithin}
 use Rattle.grammar.proofs.Steps.{goes, name-halts, only-halts, either-halts, parameters-halt, body-halts}
 use Rattle.nodes.specs.declared.node.Node.{Node}
@@ -27,7 +27,7 @@ use Rattle.syntax.specs.declared.read.Members.{Members}
 use Rattle.syntax.specs.declared.sight.Sort.TheVariants as sort
 use Rattle.syntax.specs.Left.{left, terms, places}
 use Rattle.syntax.specs.Sight.{slice, head_sort}
-use Rattle.nodes.specs.Trees.{Lies, span_of, WordAt, TreeAt}
+use Rattle.nodes.specs.Trees.{span_of, WordAt}
 use Rattle.syntax.specs.Parsing.{Ahead, Kept, Sequence, Refused, Moves}
 use Rattle.nodes.specs.Methods.{no_span, ParametersAt, MethodAt, MethodsAt}
 use Rattle.syntax.specs.Classes.{Past, Listing, ParametersRead, ParametersRefused, MethodRead, MethodRefused, class_with, MembersRead, MembersRefused, Adds, Keeps}

@@ -1,5 +1,5 @@
 -- How far each form moves on, from how far its parts do. Assumes nothing.
-use Rattle.std.proofs.Common.{◌≡◌, ℕ, ◌+◌, ◌<◌, ◌≤◌, List, length, ap, arith}
+use Rattle.std.proofs.Common.{◌≡◌, ℕ, ◌<◌, ◌≤◌, List, length, ap, arith}
 use Rattle.nodes.specs.declared.node.Node.{Node}
 use Rattle.syntax.specs.declared.read.Size.{Size}
 use Rattle.syntax.specs.declared.read.Got.{Got}

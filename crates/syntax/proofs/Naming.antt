@@ -1,12 +1,11 @@
 -- The distinct names of a body, kept as spans of its text.
-use Rattle.std.proofs.Common.{◌≡◌, ℕ, zero, suc, ◌+◌, ◌^◌, ◌<◌, ◌≤◌, min, Bool, true, false, cond, ◌||◌, List, [], ◌∷◌, ◌++◌, map, length, get_or, take, set, sym, refl, ap, ◌∙◌, subst, ap₂, ⊎_elim, arith}
+use Rattle.std.proofs.Common.{◌≡◌, ℕ, zero, suc, ◌+◌, ◌^◌, ◌<◌, ◌≤◌, min, Bool, true, false, ◌||◌, List, [], ◌∷◌, ◌++◌, map, length, get_or, take, set, sym, refl, ap, ◌∙◌, subst, ap₂, ⊎_elim, arith}
 use Rattle.std.proofs.lemmas.Slice.Eq.{bytes_eq-Decides}
 use Rattle.std.proofs.lemmas.List.{take_more_set, map_push, length_push, length-map, length-set, get_or-map}
 use Rattle.std.proofs.lemmas.Bool.{cases_Bool, or_right, or_from, cond-true, cond-false}
 use Rattle.std.specs.Str.{bytes_eq}
 use Rattle.text.specs.declared.span.Span.{Span}
 use Rattle.text.specs.Memory.{bytes_of}
-use Rattle.grammar.specs.Machine.{Target}
 use Rattle.grammar.specs.Measure.{known, learn, learn_all}
 use Rattle.syntax.specs.Sight.{slice}
 use Rattle.nodes.specs.Trees.{span_of}

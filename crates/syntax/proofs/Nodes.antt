@@ -1,5 +1,5 @@
 -- Trees in a table that grows, and the words that spans have in a memory.
-use Rattle.std.proofs.Common.{◌≡◌, ℕ, ◌+◌, ◌-◌, ◌%◌, ◌^◌, ◌<◌, ◌≤◌, ◌≢◌, List, [], ◌∷◌, length, get_or, take, drop, set, sym, refl, ap, ◌∙◌, subst, mod-eq_of_lt, arith}
+use Rattle.std.proofs.Common.{◌≡◌, ℕ, ◌+◌, ◌-◌, ◌%◌, ◌^◌, ◌<◌, ◌≤◌, ◌≢◌, List, length, get_or, drop, set, sym, refl, ap, ◌∙◌, subst, mod-eq_of_lt, arith}
 use Rattle.std.proofs.lemmas.List.{same_lists, get_or-set_same, get_or-set_other, get_or-take, get_or-drop, get_or_default, length-take, length-drop, length-set}
 use Rattle.text.specs.declared.span.Space.TheVariants.{Texts}
 use Rattle.text.specs.declared.span.Span.{Span}

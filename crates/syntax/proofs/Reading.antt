@@ -1,14 +1,14 @@
 -- The machine's way over the tokens of a text, part by part.
-use Rattle.std.proofs.Common.{◌≡◌, ℕ, ◌+◌, ◌<◌, ◌≤◌, List, [], ◌∷◌, map, length, drop, Some, sym, refl, ap, ◌∙◌, subst, arith}
-use mathlib.Core.Option.{none, some}
+use Rattle.std.proofs.Common.{◌≡◌, ℕ, ◌+◌, ◌≤◌, List, [], ◌∷◌, map, length, drop, Some, sym, refl, ap, ◌∙◌, arith}
+use mathlib.Core.Option.{some}
 use Rattle.std.proofs.lemmas.List.{drop-drop}
-use Rattle.lexer.specs.Token.{Terminal, identifier, keyword, symbol}
+use Rattle.lexer.specs.Token.{Terminal, identifier}
 use Rattle.lexer.specs.Tokens.{Placed}
 use Rattle.grammar.specs.Tree.{Expr, Args, Bare, BareArgs}
-use Rattle.grammar.specs.Grammar.{level, item}
-use Rattle.grammar.specs.Machine.{Target, target_of, Callee, Bracket, Context, room, State, Outcome, step, run}
+use Rattle.grammar.specs.Grammar.{item}
+use Rattle.grammar.specs.Machine.{Bracket, Context, room, State, Outcome, step, run}
 use Rattle.grammar.specs.Following.{First, NoName}
-use Rattle.grammar.specs.Notes.{note_of, forget, forget_args, first, annotate, annotate_args}
+use Rattle.grammar.specs.Notes.{note_of, forget, first, annotate, annotate_args}
 use Rattle.grammar.proofs.Steps.{goes}
 use Rattle.grammar.proofs.Notes.{own_first}
 use Rattle.syntax.specs.Left.{left, terms, places}

@@ -1,5 +1,5 @@
 -- What is measured of each form, from what was measured of its parts.
-use Rattle.std.proofs.Common.{◌≡◌, ℕ, suc, ◌+◌, ◌≤◌, min, max, Bool, true, ◌&&◌, leb, List, length, Decides, sym, refl, ap, ◌∙◌, subst, arith}
+use Rattle.std.proofs.Common.{◌≡◌, ℕ, suc, ◌≤◌, Bool, true, ◌&&◌, leb, List, length, Decides, sym, refl, ap, ◌∙◌, subst, arith}
 use Rattle.std.proofs.lemmas.Bool.{leb-true, le-leb}
 use Rattle.std.proofs.lemmas.Bool.Decides.{Decides-like, Decides-and}
 use Rattle.text.specs.declared.span.Span.{Span}
@@ -7,7 +7,7 @@ use Rattle.grammar.specs.Tree.{Expr, Args}
 use Rattle.grammar.specs.Measure.{depth, count, most_arguments, longest_string, Fits, IntegersFit, names_of, BodyWithin}
 use Rattle.grammar.specs.Limits.{argument_limit}
 use Rattle.syntax.specs.declared.read.Size.{Size}
-use Rattle.syntax.specs.Sizes.{around, side_by_side, of_list, Small, SmallWithin, SmallList, Sized, SizedWithin, SizedList, Knows}
+use Rattle.syntax.specs.Sizes.{around, side_by_side, of_list, Small, Sized, SizedWithin, SizedList, Knows}
 
 -- expressions of one token
 pub plain-sized : {s : Size} (e : Expr ℕ) → s ≡ record { depth = 1; small = true } → depth e ≡ 1 → IntegersFit e → longest_string e ≤ 255 → most_arguments e ≤ 4 → Sized s e

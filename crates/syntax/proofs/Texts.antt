@@ -6,8 +6,8 @@ use Rattle.lexer.specs.Law.{Stuck, stuck}
 use Rattle.lexer.proofs.Reading.{law as lexing}
 use Rattle.lexer.specs.Tokens.{Placed, Tokens, tokens}
 use Rattle.text.specs.declared.span.Span.{Span}
-use Rattle.grammar.specs.Tree.{Expr, Text, BareText}
-use Rattle.grammar.specs.Grammar.{Kind, tokens_of, FormedText}
+use Rattle.grammar.specs.Tree.{Expr, Text}
+use Rattle.grammar.specs.Grammar.{Kind}
 use Rattle.grammar.specs.Machine.{Context, State, Outcome, run, parse}
 use Rattle.grammar.specs.Notes.{forget, forget_text, annotate, annotate_text}
 use Rattle.grammar.proofs.Steps.{rule-halts}
@@ -19,7 +19,6 @@ use Rattle.syntax.specs.declared.read.Judged.{Judged}
 use Rattle.syntax.specs.declared.read.JudgedRule.{JudgedRule}
 use Rattle.nodes.specs.declared.refusal.Refusal.{Refusal}
 use Rattle.nodes.specs.declared.refusal.Refusal.TheVariants.{TooLong, Stray, Unexpected, OverLimit}
-use Rattle.nodes.specs.declared.node.Rule.{Rule}
 use Rattle.syntax.specs.declared.sight.Sort.{Sort}
 use Rattle.syntax.specs.Left.{left, terms, places}
 use Rattle.syntax.specs.Sight.{shown}

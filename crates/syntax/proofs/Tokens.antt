@@ -1,13 +1,13 @@
 -- The first of the tokens that are left, and those of a whole text.
-use Rattle.std.proofs.Common.{◌≡◌, ℕ, zero, suc, ◌+◌, ◌-◌, ◌<◌, ◌≤◌, List, [], ◌∷◌, ◌++◌, map, length, take, drop, Some, None, sym, refl, ap, ◌∙◌, subst, not-suc-le-zero, arith}
+use Rattle.std.proofs.Common.{◌≡◌, ℕ, zero, suc, ◌+◌, ◌-◌, ◌<◌, ◌≤◌, List, [], ◌∷◌, ◌++◌, length, take, drop, Some, None, sym, refl, ap, ◌∙◌, not-suc-le-zero, arith}
 use Rattle.std.proofs.lemmas.List.{drop-drop, take_at, length-drop, length-append}
 use Rattle.lexer.specs.Token.{Terminal, identifier, integer, field, string, keyword, symbol, spelling}
 use Rattle.lexer.specs.Lexing.{Next, next}
 use Rattle.lexer.specs.Tokens.{Placed, Tokens, before, scan, tokens, judged}
-use Rattle.lexer.proofs.Onward.{Known, known_by}
+use Rattle.lexer.proofs.Onward.{known_by}
 use Rattle.syntax.specs.declared.sight.Sort.TheVariants as sort
-use Rattle.syntax.specs.Left.{onward, up_to, left, terms, places}
-use Rattle.syntax.specs.Sight.{slice, token_as, shown, sort_of, head_sort}
+use Rattle.syntax.specs.Left.{onward, up_to, left}
+use Rattle.syntax.specs.Sight.{slice, token_as, shown, sort_of}
 
 module _ (text : List ℕ) where
   opened : (d at : ℕ) → up_to (suc d) text at ≡ onward (next text at) (up_to d text)

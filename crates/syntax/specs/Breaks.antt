@@ -1,5 +1,5 @@
 -- Which refusal a text meets. Assumes nothing.
-use Rattle.std.specs.Prelude.{◌≡◌, ℕ, ◌<◌, ◌≤◌, List, ◌++◌, map, length}
+use Rattle.std.specs.Prelude.{◌≡◌, ℕ, ◌≤◌, List, ◌++◌, map, length}
 use Rattle.lexer.specs.Token.{Terminal}
 use Rattle.lexer.specs.Tokens.{Placed, Tokens, tokens}
 use Rattle.grammar.specs.Grammar.{Kind}

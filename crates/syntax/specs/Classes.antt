@@ -1,16 +1,14 @@
 -- What the parser's functions promise of methods and classes. Assumes nothing.
-use Rattle.std.specs.Prelude.{◌≡◌, ℕ, ◌+◌, ◌-◌, ◌*◌, ◌<◌, ◌≤◌, ◌&&◌, List, [], ◌∷◌, ◌++◌, length, drop, Decides, slice_set}
-use Rattle.text.specs.declared.span.Space.TheVariants.{Texts}
+use Rattle.std.specs.Prelude.{◌≡◌, ℕ, ◌+◌, ◌-◌, ◌*◌, ◌≤◌, ◌&&◌, List, [], ◌∷◌, ◌++◌, length, drop, Decides, slice_set}
 use Rattle.text.specs.declared.span.Span.{Span}
 use Rattle.text.specs.Memory.{Memory}
 use Rattle.grammar.specs.Tree.{Expr, BareClass}
 use Rattle.grammar.specs.Tree as tree
 use Rattle.grammar.specs.Machine.{Context, Stage, State, Outcome, run, with_method}
 use Rattle.grammar.specs.Notes.{forget, forget_methods, first, annotate_method, annotate_methods}
-use Rattle.grammar.specs.Limits.{argument_limit, name_limit}
+use Rattle.grammar.specs.Limits.{name_limit}
 use Rattle.grammar.specs.Measure.{nodes, method_nodes, learn_all, BodyWithin, MethodsWithin}
 use Rattle.nodes.specs.declared.node.Node.{Node}
-use Rattle.nodes.specs.declared.node.Parameters.{Parameters}
 use Rattle.syntax.specs.declared.read.Listed.{Listed}
 use Rattle.nodes.specs.declared.node.Method.{Method}
 use Rattle.syntax.specs.declared.read.Defined.{Defined}
@@ -18,7 +16,7 @@ use Rattle.syntax.specs.declared.read.Members.{Members}
 use Rattle.nodes.specs.Methods.{ParametersAt, MethodAt, MethodsAt}
 use Rattle.syntax.specs.Left.{left, terms, places}
 use Rattle.syntax.specs.Sight.{slice}
-use Rattle.nodes.specs.Trees.{Lies, span_of, WordAt, TreeAt}
+use Rattle.nodes.specs.Trees.{Lies, span_of}
 use Rattle.syntax.specs.Sizes.{Knows, Learns}
 use Rattle.syntax.specs.Parsing.{Ahead, Kept}
 

@@ -13,7 +13,6 @@ use Rattle.grammar.specs.Following.{Calm, Last, First}
 use Rattle.grammar.specs.Notes.{note_of, forget, forget_args, first, annotate, annotate_args}
 use Rattle.grammar.specs.Measure.{count, learn}
 use Rattle.nodes.specs.declared.node.Node.{Node}
-use Rattle.nodes.specs.declared.node.Arguments.{Arguments}
 use Rattle.syntax.specs.declared.read.Size.{Size}
 use Rattle.syntax.specs.declared.read.Got.{Got}
 use Rattle.syntax.specs.declared.read.Given.{Given}

@@ -1,16 +1,16 @@
 -- Memory that nothing was done in stands for the state that a run begins with.
-use Rattle.std.proofs.Common.{◌≡◌, ℕ, ◌-◌, ◌≤◌, List, [], length, take, sym, refl, ap, ◌∙◌, arith}
+use Rattle.std.proofs.Common.{◌≡◌, ℕ, ◌-◌, List, [], length, take, sym, refl, ◌∙◌, arith}
 use Rattle.text.specs.Memory.{Memory}
-use Rattle.store.specs.Tables.{Table, Tables}
-use Rattle.machine.specs.Effects.{Effects, nothing_yet}
+use Rattle.store.specs.Tables.{Tables}
+use Rattle.machine.specs.Effects.{nothing_yet}
 use Rattle.machine.specs.State.{World, passed, at, initial}
 use Rattle.effects.specs.declared.spent.Spent.{Spent}
 use Rattle.effects.specs.Spending.{effects_of}
 use Rattle.operands.specs.Globals.{globals_of, GlobalsWithin}
 use Rattle.code.specs.Programs.{program_of}
-use Rattle.calls.specs.Frames.{state_of, LiveWithin}
-use Rattle.calls.specs.Calling.{world_in, state_in}
-use Rattle.vm.specs.Standing.{Lent, limits, state_with, CodeWithin, Stands}
+use Rattle.calls.specs.Frames.{LiveWithin}
+use Rattle.calls.specs.Calling.{state_in}
+use Rattle.vm.specs.Standing.{Lent, limits, CodeWithin, Stands}
 
 nothing-spent : (p : Spent) (out : List ℕ) → p.strings ≡ 0 → p.bytes ≡ 0 → p.printed ≡ 0 → nothing_yet (length out) ≡ effects_of p out
 nothing-spent p out es eb ep =

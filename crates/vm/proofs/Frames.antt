@@ -1,26 +1,26 @@
 -- Instructions seen from the frame that they run in.
-use Rattle.std.proofs.Common.{◌≡◌, ℕ, ◌+◌, ◌-◌, ◌*◌, ◌<◌, ◌≤◌, ◌⊎◌, List, ◌++◌, length, take, drop, Ok, Err, Option, Result, sym, refl, ap, ◌∙◌, subst, inl, inr, arith}
-use borrow.Rule.Slice.PartMut.{put_mid, put_same, take_put}
+use Rattle.std.proofs.Common.{◌≡◌, ℕ, ◌+◌, ◌-◌, ◌*◌, ◌≤◌, List, length, take, Ok, Err, Option, Result, sym, refl, ap, ◌∙◌, subst, inl, inr, arith}
+use borrow.Rule.Slice.PartMut.{put_mid, take_put}
 use Rattle.std.proofs.lemmas.Bool.{cases_lt}
 use Rattle.text.specs.Memory.{Memory}
 use Rattle.store.specs.declared.value.Value.{Value}
-use Rattle.store.specs.Val.{Val, meaning}
+use Rattle.store.specs.Val.{Val}
 use Rattle.store.specs.Tables.{Table, Tables}
 use Rattle.machine.specs.declared.ending.Ending.{Ending}
 use Rattle.machine.specs.Limits.{Limits, registers_per_frame}
 use Rattle.machine.specs.Outcome.{Outcome, ◌>>=◌}
 use Rattle.machine.specs.Effects.{Effects}
 use Rattle.machine.specs.Instr.{Instr, Program}
-use Rattle.machine.specs.State.{Registers, World, State, at}
+use Rattle.machine.specs.State.{World, State, at}
 use Rattle.machine.specs.Operands.{value_at}
 use Rattle.machine.specs.Step.{return, halted, exec}
 use Rattle.operands.specs.Slots.{registers_of, Within}
-use Rattle.instructions.specs.Local.{Local, local, Stays}
-use Rattle.instructions.proofs.Local.{left, exec-local}
+use Rattle.instructions.specs.Local.{local, Stays}
+use Rattle.instructions.proofs.Local.{exec-local}
 use Rattle.calls.specs.declared.frame.Frame.{Frame}
 use Rattle.calls.specs.declared.frame.Calls.{Calls}
 use Rattle.calls.specs.Frames.{window, callers_of, state_of, LiveWithin, Moved}
-use Rattle.calls.proofs.Windows.{part, part-window, window-put, window-kept, length-window, callers-kept}
+use Rattle.calls.proofs.Windows.{part, part-window, window-put, window-kept, callers-kept}
 use Rattle.vm.specs.Standing.{return_from, halt_from}
 
 -- a register of the running frame, as it is lent

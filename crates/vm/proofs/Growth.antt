@@ -1,15 +1,14 @@
 -- Globals and code mean the same once more strings are made.
-use Rattle.std.proofs.Common.{◌≡◌, ℕ, zero, suc, ◌+◌, ◌<◌, ◌≤◌, List, [], ◌∷◌, map, length, get_or, take, sym, refl, ap, ◌∙◌, arith}
+use Rattle.std.proofs.Common.{◌≡◌, ℕ, suc, ◌<◌, ◌≤◌, List, [], ◌∷◌, map, length, get_or, take, refl, ap, arith}
 use Rattle.std.proofs.lemmas.List.{get_or-take, length-take}
 use Rattle.text.specs.Memory.{Memory}
 use Rattle.text.specs.Agree.{Grown}
 use Rattle.store.specs.declared.value.Value.{Value}
-use Rattle.store.specs.Val.{Val, meaning, end_of}
-use Rattle.store.specs.Tables.{Table}
+use Rattle.store.specs.Val.{Val, end_of}
 use Rattle.store.specs.ValuesLemmas.{meaning-grown}
 use Rattle.machine.specs.declared.instruction.Instruction.{Instruction}
 use Rattle.machine.specs.declared.instruction.Instruction.TheVariants as code
-use Rattle.machine.specs.Instr.{Instr, Program, instr}
+use Rattle.machine.specs.Instr.{Instr, instr}
 use Rattle.operands.specs.declared.globals.Globals.{Globals}
 use Rattle.operands.specs.declared.globals.Name.{Name}
 use Rattle.operands.specs.Globals.{filed, globals_of, GlobalsWithin}

@@ -1,12 +1,11 @@
 -- A run, step by step.
-use Rattle.std.proofs.Common.{◌≡◌, ℕ, zero, suc, ◌+◌, ◌-◌, ◌<◌, ◌≤◌, Some, None, Ok, Err, Result, sym, refl, ap, ◌∙◌, arith}
+use Rattle.std.proofs.Common.{◌≡◌, ℕ, suc, ◌+◌, ◌-◌, ◌<◌, Some, None, Ok, Err, ap, ◌∙◌, arith}
 use Rattle.machine.specs.declared.ending.Ending.{Ending}
 use Rattle.machine.specs.Limits.{Limits}
 use Rattle.machine.specs.Instr.{Program}
 use Rattle.machine.specs.State.{State, world_of, Next, goes, ends}
 use Rattle.machine.specs.Step.{step}
 use Rattle.machine.specs.Run.{then, further, run, steps_made}
-use Rattle.vm.specs.declared.run.Ran.{Ran}
 use Rattle.vm.specs.Standing.{Steps}
 use Rattle.vm.specs.Running.{RanBy}
 

@@ -1,5 +1,5 @@
 -- What an instruction leaves stands for the state that it leads to.
-use Rattle.std.proofs.Common.{◌≡◌, ℕ, ◌≤◌, List, Ok, Err, Option, Result, sym, refl, ap, ◌∙◌, subst, arith}
+use Rattle.std.proofs.Common.{◌≡◌, ℕ, ◌≤◌, List, Ok, Err, Option, Result, sym, refl, ap, ◌∙◌, subst}
 use Rattle.text.specs.Memory.{Memory}
 use Rattle.text.specs.Agree.{Grown}
 use Rattle.store.specs.declared.value.Value.{Value}
@@ -22,7 +22,7 @@ use Rattle.calls.specs.declared.frame.Frame.{Frame}
 use Rattle.calls.specs.declared.frame.Calls.{Calls}
 use Rattle.calls.specs.Frames.{state_of, LiveWithin, Moved}
 use Rattle.calls.specs.Calling.{Content, world_in, state_in, call_from, Called}
-use Rattle.vm.specs.Standing.{Lent, lent, limits, state_with, CodeWithin, Stands, Does, Stayed, return_from, halt_from}
+use Rattle.vm.specs.Standing.{Lent, lent, limits, state_with, Stands, Does, Stayed, return_from, halt_from}
 use Rattle.vm.proofs.Growth.{globals-grown, program-grown, globals-wider, code-wider}
 
 exec-call : (P : Program) (L : Limits) (a b c : ℕ) (m : State) → exec P L (Instr.call a b c) m ≡ call_from a b c m

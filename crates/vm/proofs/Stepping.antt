@@ -1,22 +1,21 @@
 -- A step is what the instruction at its place does.
-use Rattle.std.proofs.Common.{◌≡◌, ℕ, zero, suc, ◌+◌, ◌-◌, ◌<◌, ◌≤◌, List, Some, None, Ok, Err, Option, Result, sym, refl, ap, ◌∙◌, subst, arith}
+use Rattle.std.proofs.Common.{◌≡◌, ℕ, ◌≤◌, List, Some, None, Ok, Err, Option, Result, sym, ap, ◌∙◌, subst}
 use Rattle.text.specs.Memory.{Memory}
 use Rattle.store.specs.Tables.{Tables}
 use Rattle.machine.specs.declared.ending.Ending.{Ending}
 use Rattle.machine.specs.declared.ending.Ending.TheVariants.{Stuck}
 use Rattle.machine.specs.Limits.{Limits}
-use Rattle.machine.specs.Outcome.{Outcome, ◌>>=◌, need}
+use Rattle.machine.specs.Outcome.{◌>>=◌, need}
 use Rattle.machine.specs.Instr.{Instr, Program, fetch, instr}
-use Rattle.machine.specs.State.{State, at, world_of, Next, goes, ends}
+use Rattle.machine.specs.State.{State, at, world_of, ends}
 use Rattle.machine.specs.Step.{exec, next_of, step}
-use Rattle.machine.specs.Run.{then, further, run, steps_made}
 use Rattle.operands.specs.Answering.{constant_end}
 use Rattle.code.specs.declared.table.Extent.{Extent}
 use Rattle.code.specs.declared.table.Record.{Record}
 use Rattle.code.specs.declared.table.Sealed.{Sealed}
 use Rattle.code.specs.Programs.{meant_record, program_of, StandsAt}
 use Rattle.calls.specs.Frames.{state_of}
-use Rattle.vm.specs.Standing.{Lent, state_with, CodeWithin, Stands, Does, Steps}
+use Rattle.vm.specs.Standing.{Lent, CodeWithin, Stands, Does, Steps}
 
 -- the instruction at the place of a state
 abbrev fetch_in : Program → State → Option Instr

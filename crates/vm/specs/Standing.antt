@@ -1,16 +1,14 @@
 -- When lent memory stands for a state of the machine, and what a step leaves. Assumes nothing.
-use Rattle.std.specs.Prelude.{◌≡◌, ℕ, ◌<◌, ◌≤◌, List, length, take, Some, None, Ok, Err, Option, Result, slice_index_or}
+use Rattle.std.specs.Prelude.{◌≡◌, ℕ, ◌<◌, ◌≤◌, List, length, take, Ok, Err, Result, slice_index_or}
 use Rattle.text.specs.Memory.{Memory}
-use Rattle.store.specs.declared.value.Value.{Value}
 use Rattle.store.specs.Tables.{Tables}
 use Rattle.machine.specs.declared.ending.Ending.{Ending}
 use Rattle.machine.specs.Limits.{Limits}
 use Rattle.machine.specs.Outcome.{Outcome, ◌>>=◌}
-use Rattle.machine.specs.Effects.{Effects}
-use Rattle.machine.specs.Instr.{Instr, Program, instr}
-use Rattle.machine.specs.State.{World, State, at, world_of, Next, goes, ends}
+use Rattle.machine.specs.Instr.{Program}
+use Rattle.machine.specs.State.{State, at, world_of, Next, goes, ends}
 use Rattle.machine.specs.Operands.{value_at}
-use Rattle.machine.specs.Step.{return, halted, exec}
+use Rattle.machine.specs.Step.{return, halted}
 use Rattle.operands.specs.declared.globals.Globals.{Globals}
 use Rattle.operands.specs.Globals.{globals_of, GlobalsWithin}
 use Rattle.operands.specs.Answering.{constant_end}
@@ -18,9 +16,7 @@ use Rattle.code.specs.declared.table.Record.{Record}
 use Rattle.code.specs.declared.table.Extent.{Extent}
 use Rattle.code.specs.declared.table.Sealed.{Sealed}
 use Rattle.code.specs.Programs.{program_of, records_at, extent_of}
-use Rattle.calls.specs.declared.frame.Frame.{Frame}
-use Rattle.calls.specs.declared.frame.Calls.{Calls}
-use Rattle.calls.specs.Frames.{state_of, LiveWithin}
+use Rattle.calls.specs.Frames.{LiveWithin}
 use Rattle.calls.specs.Calling.{Content, world_in, state_in}
 
 -- what stands in the memory that is lent to a run, but for the store

@@ -1,6 +1,6 @@
-use Rattle.std.proofs.Common.{◌≡◌, Some, sym, ap, ◌∙◌, arith}
+use Rattle.std.proofs.Common.{Some, sym, ap, ◌∙◌, arith}
 use Rattle.std.proofs.lemmas.Result.{err_from_is_err_and}
-use Rattle.lexer.specs.Lexing.{Next, end, stray, lexed, found}
+use Rattle.lexer.specs.Lexing.{end, stray, lexed, found}
 use Rattle.lexer.specs.Tokens.{refused}
 use Rattle.lexer.proofs.Reading.{law}
 use Rattle.lexer.proofs.Onward.{Known, known_by}

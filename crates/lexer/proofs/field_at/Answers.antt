@@ -1,4 +1,4 @@
-use Rattle.std.proofs.Common.{◌≡◌, ◌+◌, Bool, true, false, ◌∷◌, drop, is_some, sym, ap, ◌∙◌, arith}
+use Rattle.std.proofs.Common.{◌+◌, ◌∷◌, drop, is_some, sym, ap, ◌∙◌, arith}
 use Rattle.lexer.specs.declared.byte.Run.TheVariants.{Identifier}
 use Rattle.lexer.specs.Keyword.{keyword_of}
 use Rattle.lexer.specs.Token.{field}

@@ -1,7 +1,6 @@
-use Rattle.std.proofs.Common.{◌≡◌, ◌+◌, ◌∷◌, length, get_or, drop, ap, ◌∙◌, arith}
+use Rattle.std.proofs.Common.{◌+◌, ◌∷◌, get_or, drop, ap, ◌∙◌, arith}
 use Rattle.lexer.specs.declared.byte.Run.TheVariants.{Identifier}
 use Rattle.lexer.specs.Keyword.{keyword_of}
-use Rattle.lexer.specs.Token.{spelling}
 use Rattle.lexer.specs.Byte.{goes_on}
 use Rattle.lexer.specs.Lexing.{front, worded}
 use Rattle.lexer.proofs.Placing.{cut, placed-as, length-worded}

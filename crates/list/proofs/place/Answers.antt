@@ -1,5 +1,5 @@
 use Rattle.std.proofs.lemmas.List.{length-take-le}
-use Rattle.std.proofs.Common.{◌≡◌, ℕ, ◌<◌, take, IfSome, Some, None, Option, arith}
+use Rattle.std.proofs.Common.{◌≡◌, ℕ, ◌<◌, IfSome, Some, None, Option, arith}
 use Rattle.text.specs.Memory.{memory_of}
 use Rattle.text.proofs.Firsts.{first_place-from-first}
 use Rattle.store.specs.declared.key.Key.{Key}

@@ -1,4 +1,4 @@
-use Rattle.std.proofs.Common.{◌≡◌, ℕ, ◌≤◌, length, take, None, ap, arith}
+use Rattle.std.proofs.Common.{◌≡◌, ℕ, length, take, ap, arith}
 use Rattle.text.specs.Memory.{memory_of}
 use Rattle.text.specs.First.{first_place}
 use Rattle.store.specs.Filed.{place_of, same_place}

@@ -1,6 +1,5 @@
 use Rattle.std.proofs.Common.{◌≡◌, ℕ, ◌+◌, ◌-◌, ◌*◌, ◌/◌, List, length, get_or, sym, ap, ◌∙◌, arith}
-use Rattle.text.specs.declared.span.Span.{Span}
-use Rattle.text.specs.Memory.{Memory, memory_of, bytes_of}
+use Rattle.text.specs.Memory.{memory_of, bytes_of}
 use Rattle.text.specs.Meanings.{length-bytes_of}
 use Rattle.store.specs.declared.value.Value.{Value}
 use Rattle.store.specs.Val.{Val, meaning}

@@ -1,4 +1,4 @@
-use Rattle.std.proofs.Common.{◌≡◌, ℕ, suc, ◌+◌, ◌-◌, [], take, drop, Ok, refl, ap, ◌∙◌, arith}
+use Rattle.std.proofs.Common.{◌≡◌, suc, ◌+◌, ◌-◌, [], refl, ap, ◌∙◌, arith}
 use Rattle.machine.specs.Operands.{values_from}
 use Rattle.operands.specs.Slots.{registers_of}
 use Rattle.calls.proofs.Entering.{set-within, all-values, some-missing}

@@ -1,4 +1,4 @@
-use Rattle.std.proofs.Common.{◌+◌, List, length, get_or, take, drop, set, None, Option, ap, ◌∙◌, arith}
+use Rattle.std.proofs.Common.{◌+◌, List, get_or, take, drop, set, None, Option, ap, ◌∙◌, arith}
 use Rattle.std.proofs.lemmas.List.{take_all, length-drop, length-take-le}
 use Rattle.store.specs.declared.value.Value.{Value}
 use Rattle.calls.specs.Passing.{laid}

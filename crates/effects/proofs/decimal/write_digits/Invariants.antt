@@ -1,4 +1,4 @@
-use Rattle.std.proofs.Common.{◌≡◌, ◌≤◌, ◌++◌, length, drop, decimal}
+use Rattle.std.proofs.Common.{◌≡◌, ◌≤◌, ◌++◌, drop, decimal}
 use Rattle.effects.proofs.decimal.write_digits.Given as goal
 
 -- what is left to write, and what is written, are the digits

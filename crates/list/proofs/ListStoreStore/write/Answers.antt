@@ -2,7 +2,6 @@ use Rattle.std.proofs.Common.{is_some, refl, ap, ◌∙◌, arith}
 use Rattle.std.proofs.lemmas.Bool.{lt-ltb, le-ltb}
 use Rattle.text.specs.Memory.{memory_of}
 use Rattle.store.specs.declared.key.Key.{Key}
-use Rattle.store.specs.Val.{meaning}
 use Rattle.store.proofs.Tables.{takes-present, takes-new}
 use Rattle.list.proofs.Listing.{holds-pairs, holds-made, holds-unmade, holds-found, holds-none, holds-set, holds-push, inside-set, inside-push}
 use Rattle.list.proofs.ListStoreStore.write.Goals as goal

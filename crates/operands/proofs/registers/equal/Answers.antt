@@ -1,5 +1,4 @@
 use Rattle.std.proofs.Common.{arith}
-use Rattle.store.specs.Val.{meaning}
 use Rattle.text.specs.Memory.{memory_of}
 use Rattle.operands.specs.Slots.{registers_of}
 use Rattle.operands.proofs.Slots.{compared}

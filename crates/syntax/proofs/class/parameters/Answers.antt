@@ -1,4 +1,4 @@
-use Rattle.std.proofs.Common.{◌≡◌, sym, ap, ◌∙◌, arith}
+use Rattle.std.proofs.Common.{ap, arith}
 use Rattle.std.proofs.lemmas.Result.{err_from_is_err_and}
 use Rattle.syntax.proofs.Methods.{no-parameters-made, first-listed, parameters-lost, parameters-close-lost, parameters-made, next-parameter-lost, next-listed}
 use Rattle.syntax.proofs.class.parameters.Goals as goal

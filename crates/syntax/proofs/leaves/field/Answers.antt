@@ -1,4 +1,4 @@
-use Rattle.std.proofs.Common.{◌≡◌, ℕ, refl, ap, arith}
+use Rattle.std.proofs.Common.{refl, ap, arith}
 use Rattle.grammar.specs.Tree.{Expr}
 use Rattle.syntax.specs.Sight.{slice}
 use Rattle.syntax.specs.Parsing.{target_token}

@@ -1,4 +1,4 @@
-use Rattle.std.proofs.Common.{◌≡◌, sym, refl, ap, ◌∙◌, ⊎_elim, arith}
+use Rattle.std.proofs.Common.{sym, refl, ◌∙◌, ⊎_elim, arith}
 use Rattle.std.proofs.lemmas.List.{set_past}
 use Rattle.syntax.proofs.Naming.{learnt-many, learnt-known, learnt-new}
 use Rattle.syntax.proofs.names.learn.Goals as goal

@@ -1,4 +1,4 @@
-use Rattle.std.proofs.Common.{◌≡◌, sym, ap, ◌∙◌, arith}
+use Rattle.std.proofs.Common.{sym, ◌∙◌}
 use Rattle.syntax.proofs.Numbers.{minus-value, minus-fits, minus-within}
 use Rattle.syntax.proofs.number.value.Goals as goal
 

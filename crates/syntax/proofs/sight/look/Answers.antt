@@ -1,4 +1,4 @@
-use Rattle.std.proofs.Common.{◌≡◌, sym, ap, ◌∙◌}
+use Rattle.std.proofs.Common.{sym, ap, ◌∙◌}
 use Rattle.lexer.specs.Token.{terminal}
 use Rattle.lexer.specs.Lexing.{found}
 use Rattle.syntax.specs.Sight.{shown}

@@ -1,4 +1,4 @@
-use Rattle.std.proofs.Common.{◌≡◌, sym, refl, ◌∙◌, arith}
+use Rattle.std.proofs.Common.{sym, refl, ◌∙◌, arith}
 use Rattle.std.proofs.lemmas.List.{set_past}
 use Rattle.syntax.proofs.table.put.Goals as goal
 use Rattle.syntax.proofs.table.put.Goals.{then-at-nodes, else-at-nodes}

@@ -1,5 +1,4 @@
-use Rattle.std.proofs.Common.{◌≡◌, sym, refl, ap, ◌∙◌, subst, arith}
-use Rattle.text.specs.Memory.{Memory}
+use Rattle.std.proofs.Common.{ap, arith}
 use Rattle.machine.specs.Instr.{instr}
 use Rattle.operands.specs.Globals.{globals_of}
 use Rattle.effects.specs.Spending.{effects_of}

@@ -1,8 +1,7 @@
-use Rattle.std.proofs.Common.{◌≡◌, ℕ, ◌+◌, ◌-◌, ◌*◌, ◌≤◌, List, length, Option, sym, refl, ap, ◌∙◌, subst, arith}
+use Rattle.std.proofs.Common.{◌≡◌, ℕ, ◌+◌, ◌-◌, ◌*◌, length, sym, refl, ap, ◌∙◌, subst, arith}
 use borrow.Rule.Slice.PartMut.{put_mid, put_same}
 use Rattle.std.proofs.lemmas.Result.{err_from_is_err_and}
 use Rattle.text.specs.Memory.{memory_of}
-use Rattle.store.specs.declared.value.Value.{Value}
 use Rattle.machine.specs.Limits.{registers_per_frame}
 use Rattle.machine.specs.Instr.{instr}
 use Rattle.operands.specs.Globals.{globals_of}

@@ -1,4 +1,3 @@
-use Rattle.std.proofs.Common.{arith}
 use Rattle.calls.specs.Calling.{content}
 use Rattle.vm.specs.Standing.{lent}
 use Rattle.vm.proofs.Stepping.{some-steps, none-ends, constant-within}

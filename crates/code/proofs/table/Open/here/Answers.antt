@@ -1,4 +1,3 @@
-use Rattle.std.proofs.Common.{rules}
 use Rattle.code.proofs.Laying.{length-laid}
 use Rattle.code.proofs.table.Open.here.Goals as goal
 

@@ -1,4 +1,4 @@
-use Rattle.std.proofs.Common.{[], ◌∷◌, ◌++◌, refl, subst, rules}
+use Rattle.std.proofs.Common.{[], ◌∷◌, ◌++◌, refl, subst}
 use Rattle.code.specs.Laying.{Lays}
 use Rattle.code.proofs.table.Open.lay_jump.Goals as goal
 

@@ -1,4 +1,4 @@
-use Rattle.std.proofs.Common.{refl, arith, rules}
+use Rattle.std.proofs.Common.{refl, arith}
 use Rattle.code.specs.Programs.{code_at, program_at}
 use Rattle.code.proofs.table.Open.new.Goals as goal
 

@@ -1,4 +1,4 @@
-use Rattle.std.proofs.Common.{◌≡◌, sym, ap, ◌∙◌, subst, arith, rules}
+use Rattle.std.proofs.Common.{ap, ◌∙◌, arith}
 use Rattle.code.specs.Programs.{program_at}
 use Rattle.code.proofs.Laying.{more-functions}
 use Rattle.code.proofs.table.Open.seal.Goals as goal

@@ -1,4 +1,4 @@
-use Rattle.std.proofs.Common.{refl, ap, ◌∙◌, arith, rules}
+use Rattle.std.proofs.Common.{refl, ap, ◌∙◌, arith}
 use Rattle.code.specs.Laying.{jump_of}
 use Rattle.std.proofs.lemmas.List.{get_or-set_other}
 use Rattle.code.proofs.Laying.{origins-kept, distance, length-laid, landed-as, landed-nowhere}

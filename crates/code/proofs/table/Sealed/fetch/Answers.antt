@@ -1,4 +1,4 @@
-use Rattle.std.proofs.Common.{◌≡◌, sym, ◌∙◌, arith}
+use Rattle.std.proofs.Common.{sym, ◌∙◌, arith}
 use Rattle.code.proofs.Fetching.{no-function, of_function, past-code, past-table, in_code, stands_at}
 use Rattle.code.proofs.table.Sealed.fetch.Goals as goal
 

@@ -1,4 +1,4 @@
-use Rattle.std.proofs.Common.{◌≡◌, sym, refl, ◌∙◌, arith}
+use Rattle.std.proofs.Common.{sym, refl, ◌∙◌, arith}
 use Rattle.std.proofs.lemmas.List.{set_past}
 use Rattle.nodes.proofs.node.Arguments.with.Goals as goal
 use Rattle.nodes.proofs.node.Arguments.with.Goals.{then-self-lt-ARGUMENTS, else-self-lt-ARGUMENTS}

@@ -1,4 +1,4 @@
-use Rattle.std.proofs.Common.{◌<◌, Some, None, refl, ap, arith}
+use Rattle.std.proofs.Common.{◌<◌, refl, arith}
 use Rattle.operands.proofs.Naming.{held_found, held_none, put-found, put-fresh, has-place, has_room, no_room, within-set, within-fresh}
 use Rattle.operands.proofs.globals.Globals.write.Goals as goal
 
