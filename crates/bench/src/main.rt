@@ -4,7 +4,7 @@
 use anyhow::anyhow;
 use std::env;
 
-mod machine;
+mod loops;
 mod stores;
 
 const USAGE: &str = "usage: bench SUBJECT
@@ -23,7 +23,7 @@ fn run(rt: &HostRuntime) -> anyhow::Result<()> {
     };
     match subject.as_str() {
         "stores" => stores::measure(rt),
-        "machine" => machine::measure(rt),
+        "machine" => loops::measure(rt),
         other => {
             eprintln!(rt; "bench: there is no subject `{other}`")?;
             rt.eprint(USAGE)?;

@@ -1,7 +1,7 @@
 -- What chained entries mean: the first fit of a chain is the first of all, and what a write does. Assumes nothing.
 use Rattle.std.proofs.Common.{◌≡◌, ℕ, ◌+◌, ◌<◌, ◌≤◌, true, false, List, [], ◌∷◌, ◌++◌, map, length, get_or, take, set, Some, None, Option, sym, refl, ap, ◌∙◌, subst, arith}
 use lib.Seq.{take-set-lt}
-use Rattle.std.specs.List.{AllByRecursion as All}
+use Rattle.std.specs.List.{AllByRecursion}
 use Rattle.std.proofs.ByRecursion.{All-weaker, All-set, All-push, All-get_or}
 use Rattle.std.proofs.lemmas.List.{length-map, length-take-le, get_or-take, get_or-map, take_more_set, map-set, map_push, set-get_or}
 use Rattle.std.proofs.lemmas.Bool.{lt-ltb, le-ltb}
@@ -38,13 +38,13 @@ module _ (buckets : ℕ) (m : Memory) (p : ℕ × Val) (b : ℕ) (is : b ≡ buc
 pub holds-nothing : (es : List Chained) (buckets : ℕ) (m : Memory) → Holds es buckets 0 0 m []
 holds-nothing es buckets m = record { files = files-none; placed = tt }
 
-pairs-grown : (u : ℕ) (l m : Memory) → Grown u l m → (xs : List Chained) → All (λ (e : Chained). (end_of e.key.value ≤ u) × (end_of e.value ≤ u)) xs → map (pair_of l) xs ≡ map (pair_of m) xs
+pairs-grown : (u : ℕ) (l m : Memory) → Grown u l m → (xs : List Chained) → AllByRecursion (λ (e : Chained). (end_of e.key.value ≤ u) × (end_of e.value ≤ u)) xs → map (pair_of l) xs ≡ map (pair_of m) xs
 pairs-grown u l m g [] a = refl
 pairs-grown u l m g (e ∷ xs) a =
     let rest = pairs-grown u l m g xs a.1 in
     λ i. ((e.key.location.0, meaning-grown u l m e.key.value g a.0.0 i), meaning-grown u l m e.value g a.0.1 i) ∷ rest i
 
-placed-grown : (buckets u : ℕ) (l m : Memory) → Grown u l m → (xs : List Chained) → All (λ (e : Chained). (end_of e.key.value ≤ u) × (end_of e.value ≤ u)) xs → InPlace buckets l xs → InPlace buckets m xs
+placed-grown : (buckets u : ℕ) (l m : Memory) → Grown u l m → (xs : List Chained) → AllByRecursion (λ (e : Chained). (end_of e.key.value ≤ u) × (end_of e.value ≤ u)) xs → InPlace buckets l xs → InPlace buckets m xs
 placed-grown buckets u l m g [] a p = tt
 placed-grown buckets u l m g (e ∷ xs) a p =
     (p.0 ∙ ap (λ (k : Val). bucket_of buckets (e.key.location.0, k)) (meaning-grown u l m e.key.value g a.0.0), placed-grown buckets u l m g xs a.1 p.1)
@@ -86,7 +86,7 @@ module _ (es : List Chained) (len : ℕ) (fit : len ≤ length es) where
   inside-put : (u i : ℕ) (e : Chained) → i < len → Inside es len u → end_of e.key.value ≤ u → end_of e.value ≤ u → Inside (set es i e) len u
   inside-put u i e h a p q =
       let P : Chained → Type 0 = λ (x : Chained). (end_of x.key.value ≤ u) × (end_of x.value ≤ u) in
-      subst (All P) (sym (take-set-lt len es i e h)) (All-set P (take len es) i e (p, q) a)
+      subst (AllByRecursion P) (sym (take-set-lt len es i e h)) (All-set P (take len es) i e (p, q) a)
 
   pub inside-set : (u i : ℕ) (v : Value) → i < len → Inside es len u → end_of v ≤ u → Inside (set es i (valued (get_or es i unused) v)) len u
   inside-set u i v h a q = inside-put u i (valued (get_or es i unused) v) h a (inside-at u i h a).0 q
@@ -97,7 +97,7 @@ module _ (es : List Chained) (len : ℕ) (fit : len ≤ length es) where
   pub inside-push : (u : ℕ) (e : Chained) → len < length es → Inside es len u → end_of e.key.value ≤ u → end_of e.value ≤ u → Inside (set es len e) (len + 1) u
   inside-push u e room a p q =
       let P : Chained → Type 0 = λ (x : Chained). (end_of x.key.value ≤ u) × (end_of x.value ≤ u) in
-      subst (All P) (sym (take_more_set es len e room)) (All-push P (take len es) e a (p, q))
+      subst (AllByRecursion P) (sym (take_more_set es len e room)) (All-push P (take len es) e a (p, q))
 
   module _ (buckets n : ℕ) (m : Memory) (T : Tables) (h : Holds es buckets len n m T) where
     pub holds-length : length T ≡ n
@@ -126,7 +126,7 @@ module _ (es : List Chained) (len : ℕ) (fit : len ≤ length es) where
     placed-put : (i : ℕ) (e : Chained) → i < len → e.bucket ≡ bucket_of buckets (place_of m e.key) → InPlace buckets m (take len (set es i e))
     placed-put i e q p =
         let P : Chained → Type 0 = λ (x : Chained). x.bucket ≡ bucket_of buckets (place_of m x.key) in
-        subst (All P) (sym (take-set-lt len es i e q)) (All-set P (take len es) i e p h.placed)
+        subst (AllByRecursion P) (sym (take-set-lt len es i e q)) (All-set P (take len es) i e p h.placed)
 
     -- where an entry leads is no part of what it means
     pairs-lead : (i k : ℕ) → i < len → map (pair_of m) (take len (set es i (led (get_or es i unused) k))) ≡ map (pair_of m) (take len es)
@@ -193,5 +193,5 @@ module _ (es : List Chained) (len : ℕ) (fit : len ≤ length es) where
         record {
           files = subst (λ (fs : List Filed). Files fs n (write T e.key.location.0 (meaning m e.key.value) (meaning m e.value))) same
               (files-file (map (pair_of m) xs) n T h.files e.key.location.0 (meaning m e.key.value) (meaning m e.value) lt);
-          placed = subst (All P) (sym (take_more_set es len e room)) (All-push P xs e h.placed is);
+          placed = subst (AllByRecursion P) (sym (take_more_set es len e room)) (All-push P xs e h.placed is);
         }

@@ -1,6 +1,6 @@
 -- What chained entries mean: pairs in the order in which their keys came, each in the bucket that its key gives. Assumes nothing.
 use Rattle.std.specs.Prelude.{◌≡◌, ℕ, ◌≤◌, List, map, take}
-use Rattle.std.specs.List.{AllByRecursion as All}
+use Rattle.std.specs.List.{AllByRecursion}
 use Rattle.text.specs.Memory.{Memory}
 use Rattle.store.specs.Val.{Val, meaning, end_of}
 use Rattle.store.specs.Tables.{Tables}
@@ -13,7 +13,7 @@ pair_of m e = (place_of m e.key, meaning m e.value)
 
 -- each entry's number is the one that its table and its key's meaning give: the only part that looks at bytes
 abbrev pub InPlace : ℕ → Memory → List Chained → Type 0
-InPlace buckets m es = All (λ (e : Chained). e.bucket ≡ bucket_of buckets (place_of m e.key)) es
+InPlace buckets m es = AllByRecursion (λ (e : Chained). e.bucket ≡ bucket_of buckets (place_of m e.key)) es
 
 -- lent the memory m, the first len entries are the tables T, of which there are n
 pub record Holds (es : List Chained) (buckets len n : ℕ) (m : Memory) (T : Tables) : Type 0 where
@@ -22,4 +22,4 @@ pub record Holds (es : List Chained) (buckets len n : ℕ) (m : Memory) (T : Tab
 
 -- the keys and values of the first len entries end by u among the strings made
 abbrev pub Inside : List Chained → ℕ → ℕ → Type 0
-Inside es len u = All (λ (e : Chained). (end_of e.key.value ≤ u) × (end_of e.value ≤ u)) (take len es)
+Inside es len u = AllByRecursion (λ (e : Chained). (end_of e.key.value ≤ u) × (end_of e.value ≤ u)) (take len es)

@@ -1,7 +1,7 @@
 -- Laying a record, landing a jump, finishing a function: what they do to the code that stands.
 use Rattle.std.proofs.Common.{◌≡◌, ℕ, zero, suc, ◌+◌, ◌-◌, ◌^◌, ◌<◌, ◌≤◌, List, [], ◌∷◌, ◌++◌, map, length, get_or, take, drop, set, pos, sym, refl, ap, ◌∙◌, subst, arith, w32, to_z}
 use borrow.Author.Differences.{ints}
-use Rattle.std.specs.List.{AllByRecursion as All}
+use Rattle.std.specs.List.{AllByRecursion}
 use Rattle.std.proofs.lemmas.List.{length-set, length-drop, take-set-le, take_more_set, drop-set-add, map-set, map_push, set_past}
 use Rattle.std.proofs.ByRecursion.{All-push, All-weaker}
 use Rattle.text.specs.Memory.{Memory}
@@ -23,7 +23,7 @@ code-before m xs e k x h =
     ∙ ap (map (meant m)) (take-set-le e.len (drop e.start xs) (k - e.start) x (omega arith))
 
 -- and so all functions
-functions-before : (m : Memory) (xs : List Record) (k : ℕ) (x : Record) (es : List Extent) → All (λ e. end_of e ≤ k) es → map (code_at m (set xs k x)) es ≡ map (code_at m xs) es
+functions-before : (m : Memory) (xs : List Record) (k : ℕ) (x : Record) (es : List Extent) → AllByRecursion (λ e. end_of e ≤ k) es → map (code_at m (set xs k x)) es ≡ map (code_at m xs) es
 functions-before m xs k x [] h = refl
 functions-before m xs k x (e ∷ es) h =
     ap (λ c. c ∷ map (code_at m (set xs k x)) es) (code-before m xs e k x h.0)
@@ -126,7 +126,7 @@ module _ {m : Memory} {xs : List Record} {o : Open} {P : Program} {c : List Inst
       record {
         finished = more-functions;
         current = refl;
-        apart = subst (All (λ e. end_of e ≤ end_of o.current)) (sym (take_more_set o.extents o.finished o.current fits))
+        apart = subst (AllByRecursion (λ e. end_of e ≤ end_of o.current)) (sym (take_more_set o.extents o.finished o.current fits))
             (All-push (λ e. end_of e ≤ end_of o.current) (take o.finished o.extents) o.current
             (All-weaker (λ e. end_of e ≤ o.current.start) (λ e. end_of e ≤ end_of o.current) (λ e q. omega arith) _ l.apart) (omega arith));
         few = omega arith;

@@ -1,6 +1,6 @@
 -- Code that is being laid. Assumes nothing.
 use Rattle.std.specs.Prelude.{◌≡◌, ℕ, suc, ◌+◌, ◌-◌, ◌^◌, ◌<◌, ◌≤◌, Bool, ◌&&◌, List, length, take, ℤ, pos, Some, None, Option, nat_lt, slice_set}
-use Rattle.std.specs.List.{AllByRecursion as All}
+use Rattle.std.specs.List.{AllByRecursion}
 use Rattle.text.specs.Memory.{Memory}
 use Rattle.machine.specs.declared.instruction.Register.{Register}
 use Rattle.machine.specs.Instr.{Instr, Program}
@@ -26,7 +26,7 @@ pub record Lays (m : Memory) (xs : List Record) (o : Open) (P : Program) (c : Li
   pub finished : program_at m xs o.finished o.extents ≡ P
   pub current : code_at m xs o.current ≡ c
   -- no finished function reaches into the one under way
-  pub apart : All (λ e. end_of e ≤ o.current.start) (take o.finished o.extents)
+  pub apart : AllByRecursion (λ e. end_of e ≤ o.current.start) (take o.finished o.extents)
   pub few : o.finished < function_limit
   pub all : length o.extents ≡ function_limit
   pub inside : end_of o.current ≤ length xs

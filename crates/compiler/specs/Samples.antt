@@ -1,6 +1,6 @@
 -- The sample rules on the machine: within the bound on steps they end as their table says. Assumes nothing.
 use Rattle.std.specs.Prelude.{◌≡◌, ℕ, List, [], ◌∷◌, Some, None, codes, Option}
-use Rattle.std.specs.List.{AllByRecursion as All}
+use Rattle.std.specs.List.{AllByRecursion}
 use Rattle.lexer.specs.Tokens.{tokens}
 use Rattle.machine.specs.declared.ending.Ending.{Ending}
 use Rattle.machine.specs.declared.ending.Ending.TheVariants.{
@@ -39,7 +39,7 @@ ran x =
     (λ P. with_rule (tree_of Kind.rule (tokens x.rule)) (λ e. ran_by P e (ended (meaning (setting P) 16384 e 40))))
 
 abbrev pub RunsHold : Type 0
-RunsHold = All (λ x. ran x.sample ≡ Some (x.ending, x.output)) rows
+RunsHold = AllByRecursion (λ x. ran x.sample ≡ Some (x.ending, x.output)) rows
 
 -- more rules: every form, every ending that a small store reaches
 abbrev pub more_rows : List Row
@@ -83,7 +83,7 @@ more_rows =
     ∷ []
 
 abbrev pub MeaningsHold : Type 0
-MeaningsHold = All (λ x. ending_of (answer_at 40 x.sample) ≡ Some (x.ending, x.output)) more_rows
+MeaningsHold = AllByRecursion (λ x. ending_of (answer_at 40 x.sample) ≡ Some (x.ending, x.output)) more_rows
 
 abbrev pub MoreRunsHold : Type 0
-MoreRunsHold = All (λ x. ran x.sample ≡ Some (x.ending, x.output)) more_rows
+MoreRunsHold = AllByRecursion (λ x. ran x.sample ≡ Some (x.ending, x.output)) more_rows

@@ -1,6 +1,6 @@
 -- Every method that a class finds can be called. Assumes nothing.
 use Rattle.std.proofs.Common.{◌≡◌, ℕ, false, List, Some, codes, sym}
-use Rattle.std.specs.List.{AllByRecursion as All}
+use Rattle.std.specs.List.{AllByRecursion}
 use Rattle.std.specs.Str.{bytes_eq}
 use Rattle.std.proofs.lemmas.Bool.{false≢true}
 use Rattle.store.specs.Val.{Val}
@@ -36,7 +36,7 @@ module _ {A : Type 0} (P : Classes A) (L : Limits) (main : Expr A) (G : Table) (
       self i m n
 
   -- a method that a class defines can be called
-  written-callable : (k : ℕ) (again : Eval A) → ((e : Expr A) → Good P L (program P main) G k again e) → Accepted P → Few P → ClassesWithin P → All SpelledClass P
+  written-callable : (k : ℕ) (again : Eval A) → ((e : Expr A) → Good P L (program P main) G k again e) → Accepted P → Few P → ClassesWithin P → AllByRecursion SpelledClass P
       → (D x : List ℕ) (i : ℕ) (m : Method A) → lookup P D x ≡ Some (Callee.written i m) → Callable P L (program P main) G globals k again (Callee.written i m)
   written-callable k again rec accepted few within spelled D x i m h =
       let there = found-written P D x i m h in
@@ -47,7 +47,7 @@ module _ {A : Type 0} (P : Classes A) (L : Limits) (main : Expr A) (G : Table) (
             call below frames (self-of w (found-unlike P (class_of s.heap r) y i m accepted found)) ws sound space;
       }
 
-  pub callables : (k : ℕ) (again : Eval A) → ((e : Expr A) → Good P L (program P main) G k again e) → Accepted P → Few P → ClassesWithin P → All SpelledClass P
+  pub callables : (k : ℕ) (again : Eval A) → ((e : Expr A) → Good P L (program P main) G k again e) → Accepted P → Few P → ClassesWithin P → AllByRecursion SpelledClass P
       → Callables P L (program P main) G globals k again
   callables k again rec accepted few within spelled D x (Callee.built_in n o) h = built_in-callable P L (program P main) G globals k again accepted few (operation-loaded P main) D x n o h
   callables k again rec accepted few within spelled D x (Callee.written i m) h = written-callable k again rec accepted few within spelled D x i m h

@@ -1,7 +1,7 @@
 -- Arguments and invocations. Assumes nothing.
 use Rattle.std.proofs.Common.{◌≡◌, ℕ, zero, suc, ◌+◌, ◌<◌, true, false, eqb, List, [], ◌∷◌, ◌++◌, map, length, pos, Some, None, Option, refl, ◌∙◌, subst, add-zero, arith}
 use Rattle.std.proofs.lemmas.List.{length-map, map_push, length_push}
-use Rattle.std.specs.List.{AllByRecursion as All}
+use Rattle.std.specs.List.{AllByRecursion}
 use Rattle.std.specs.Option.{option_map}
 use Rattle.store.specs.Val.{Val}
 use Rattle.store.specs.Tables.{Table, look, put}
@@ -44,11 +44,11 @@ hold-push {t = t} (v ∷ ws) w (more a b) h =
     more a (hold-push ws w b (rw e at h))
 
 module _ {A : Type 0} (P : Classes A) (L : Limits) (C : Program) (G : Table) (globals : Globals P G) where
-  all-fine : {H H' : Heap} (vs : List Val) → Grows P H H' → All (Fine P H) vs → All (Fine P H') vs
+  all-fine : {H H' : Heap} (vs : List Val) → Grows P H H' → AllByRecursion (Fine P H) vs → AllByRecursion (Fine P H') vs
   all-fine [] g a = tt
   all-fine (v ∷ vs) g a = (fine-grows P L g a.0, all-fine vs g a.1)
 
-  all_push : {H : Heap} (vs : List Val) (v : Val) → All (Fine P H) vs → Fine P H v → All (Fine P H) (vs ++ v ∷ [])
+  all_push : {H : Heap} (vs : List Val) (v : Val) → AllByRecursion (Fine P H) vs → Fine P H v → AllByRecursion (Fine P H) (vs ++ v ∷ [])
   all_push [] v a w = (w, tt)
   all_push (u ∷ vs) v a w = (a.0, all_push vs v a.1 w)
 
@@ -100,7 +100,7 @@ module _ {A : Type 0} (P : Classes A) (L : Limits) (C : Program) (G : Table) (gl
       pub function : builtin_of (function_of f') ≡ None
       pub sim : {f pc t a last : ℕ} {S : List Frame} {R : Registers} (s : State) (r : Val) (vs : List Val) (x : List ℕ) (d : ℕ)
           → Fetch C f pc (Instr.call a t last) → t < registers_per_frame → d + suc (length S) ≡ 31
-          → lookup P (class_of s.heap r) x ≡ Some f' → Fine P s.heap r → All (Fine P s.heap) vs
+          → lookup P (class_of s.heap r) x ≡ Some f' → Fine P s.heap r → AllByRecursion (Fine P s.heap) vs
           → Sound P s.heap → heap.fits (setting P L C G globals k again) s.heap 0 0 ≡ true
           → Sim P C L G k (at (function_of f') 0 (passed (block r vs)) (frame f pc R ∷ S) (world P G s)) 20 s.counted f (suc pc) S (Back P L R t s)
           (unless WrongArgumentCount (eqb (length vs) (parameter_count f')) s (enter (setting P L C G globals k again) again d f' r vs s))
@@ -108,7 +108,7 @@ module _ {A : Type 0} (P : Classes A) (L : Limits) (C : Program) (G : Table) (gl
     -- a call: a frame is taken, or there is none
     pub framed-back : {f p q t a : ℕ} {ns : List (List ℕ)} {me : Val} {S : List Frame} {R₀ : Registers} {H₀ : Heap} {R : Registers} (s : State) (r : Val) (vs : List Val) (x : List ℕ) (f' : Callee A) (d : ℕ)
         → Callable f' → lookup P (class_of s.heap r) x ≡ Some f'
-        → Pre P L ns me d t S R₀ H₀ R s → Fine P s.heap r → All (Fine P s.heap) vs → t < registers_per_frame
+        → Pre P L ns me d t S R₀ H₀ R s → Fine P s.heap r → AllByRecursion (Fine P s.heap) vs → t < registers_per_frame
         → Has R a (Val.identifier (function_of f')) → Hold R t (block r vs) → Seg C f p (Instr.call a t (t + 1 + length vs) ∷ []) q
         → Sim P C L G (suc k) (at f p R S (world P G s)) 21 s.counted f q S (Back P L R t s) (framed (setting P L C G globals k again) again d f' r vs s)
     framed-back {t = t} s r vs x f' zero c e h w ws b i hs g =
@@ -123,7 +123,7 @@ module _ {A : Type 0} (P : Classes A) (L : Limits) (C : Program) (G : Table) (gl
 
     framed_then : {f p q t a : ℕ} {ns : List (List ℕ)} {me : Val} {S : List Frame} {R₀ : Registers} {H₀ : Heap} {R : Registers} (s : State) (r : Val) (vs : List Val) (x : List ℕ) (f' : Callee A) (d : ℕ)
         → Callable f' → lookup P (class_of s.heap r) x ≡ Some f'
-        → Pre P L ns me d t S R₀ H₀ R s → Fine P s.heap r → All (Fine P s.heap) vs → t < registers_per_frame
+        → Pre P L ns me d t S R₀ H₀ R s → Fine P s.heap r → AllByRecursion (Fine P s.heap) vs → t < registers_per_frame
         → Has R a (Val.identifier (function_of f')) → Hold R t (block r vs) → Seg C f p (Instr.call a t (t + 1 + length vs) ∷ []) q
         → Sim P C L G (suc k) (at f p R S (world P G s)) 21 s.counted f q S (Post P L ns me t R₀ H₀) (framed (setting P L C G globals k again) again d f' r vs s)
     framed_then s r vs x f' d c e h w ws b i hs g = weaken (λ v s' R' φ. back-post P L h φ) (framed-back s r vs x f' d c e h w ws b i hs g)
@@ -145,7 +145,7 @@ module _ {A : Type 0} (P : Classes A) (L : Limits) (C : Program) (G : Table) (gl
     sent-then : {f p q t : ℕ} {ns : List (List ℕ)} {me : Val} {S : List Frame} {R₀ : Registers} {H₀ : Heap} {R : Registers} (s : State) (r : Val) (vs : List Val) (x : List ℕ) (d n : ℕ) (o : Option (Callee A))
         → ((f' : Callee A) → o ≡ Some f' → Callable f') → lookup P (class_of s.heap r) x ≡ o → length vs ≡ n
         → store.read (tables_of P s.heap) (place_in (class_names P) (class_of s.heap r)) (Val.string x) ≡ option_map (λ f''. Val.identifier (function_of f'')) o
-        → Pre P L ns me d t S R₀ H₀ R s → Fine P s.heap r → All (Fine P s.heap) vs → t + n + 4 < registers_per_frame
+        → Pre P L ns me d t S R₀ H₀ R s → Fine P s.heap r → AllByRecursion (Fine P s.heap) vs → t + n + 4 < registers_per_frame
         → Has R (suc t) (shift P r) → Hold R (suc (suc t)) (map (shift P) vs) → Has R (t + 2 + n) (class_at P L C G globals s.heap r) → Seg C f p (Tested t n x 0) q
         → Sim P C L G (suc k) (at f p R S (world P G s)) 118 s.counted f q S (Post P L ns me t R₀ H₀) (called (setting P L C G globals k again) again d o r vs s)
     sent-then {t = t} {R = R} s r vs x d n None cs e m rd h w ws b i hs c g =
@@ -187,7 +187,7 @@ module _ {A : Type 0} (P : Classes A) (L : Limits) (C : Program) (G : Table) (gl
     -- an invocation's method is looked up, and entered if it is there
     pub send-then : {f p q t : ℕ} {ns : List (List ℕ)} {me : Val} {S : List Frame} {R₀ : Registers} {H₀ : Heap} {R : Registers} (s : State) (r : Val) (vs : List Val) (x : List ℕ) (d n : ℕ)
         → ((f' : Callee A) → lookup P (class_of s.heap r) x ≡ Some f' → Callable f') → length vs ≡ n → MethodName x
-        → Pre P L ns me d t S R₀ H₀ R s → Fine P s.heap r → All (Fine P s.heap) vs → t + n + 4 < registers_per_frame
+        → Pre P L ns me d t S R₀ H₀ R s → Fine P s.heap r → AllByRecursion (Fine P s.heap) vs → t + n + 4 < registers_per_frame
         → Has R (suc t) (shift P r) → Hold R (t + 2) (map (shift P) vs) → Seg C f p (send P t x n) q
         → Sim P C L G (suc k) (at f p R S (world P G s)) 128 s.counted f q S (Post P L ns me t R₀ H₀) (called (setting P L C G globals k again) again d (lookup P (class_of s.heap r) x) r vs s)
     unfolding send

@@ -1,6 +1,6 @@
 -- Fields of self, and class tests. Assumes nothing.
 use Rattle.std.proofs.Common.{◌≡◌, ℕ, suc, ◌+◌, ◌<◌, Bool, true, false, cond, List, [], ◌∷◌, ◌++◌, length, get_or, Some, None, codes, Option, sym, refl, ap, ◌∙◌, subst, arith}
-use Rattle.std.specs.List.{AllByRecursion as All}
+use Rattle.std.specs.List.{AllByRecursion}
 use Rattle.std.specs.Str.{bytes_eq}
 use Rattle.std.specs.Option.{option_map}
 use Rattle.store.specs.Val.{Val, equal_val}
@@ -48,7 +48,7 @@ module _ {A : Type 0} (P : Classes A) (L : Limits) (C : Program) (G : Table) (gl
   truth-fine false n = n
 
   -- a field's value in a fine heap is fine
-  fields-fine : {H : Heap} (fs : Table) (k v : Val) → All (FineField P H) fs → look k fs ≡ Some v → Fine P H v
+  fields-fine : {H : Heap} (fs : Table) (k v : Val) → AllByRecursion (FineField P H) fs → look k fs ≡ Some v → Fine P H v
   unfolding look
   fields-fine [] k v a e = let z : ◌≡◌ {A = ℕ} 0 1 = cc in absurd (omega arith)
   fields-fine {H} (p ∷ fs) k v a e = by (equal_val p.0 k) e (fields-fine fs k v a.1) where
@@ -62,12 +62,12 @@ module _ {A : Type 0} (P : Classes A) (L : Limits) (C : Program) (G : Table) (gl
     by true e f = let w : p.1 ≡ v = cc in subst (Fine P H) w (one-fine p.0 p.1 a.0)
     by false e f = f e
 
-  cell-fields : {H : Heap} {l : ℕ} {C : List ℕ} {fs : Table} → FineCell P H l (Cell.object C fs) → bytes_eq C (codes "Map") ≡ false → All (FineField P H) fs
+  cell-fields : {H : Heap} {l : ℕ} {C : List ℕ} {fs : Table} → FineCell P H l (Cell.object C fs) → bytes_eq C (codes "Map") ≡ false → AllByRecursion (FineField P H) fs
   cell-fields (an_object m k a) n = a
   cell-fields (a_map e) n = let z : ◌≡◌ {A = ℕ} 0 1 = cc in absurd (omega arith)
 
   -- the fields of self
-  pub self-fields : {H : Heap} (l : ℕ) {C : List ℕ} {fs : Table} → FineHeap P H → get_or H l no_cell ≡ Cell.object C fs → bytes_eq C (codes "Map") ≡ false → All (FineField P H) fs
+  pub self-fields : {H : Heap} (l : ℕ) {C : List ℕ} {fs : Table} → FineHeap P H → get_or H l no_cell ≡ Cell.object C fs → bytes_eq C (codes "Map") ≡ false → AllByRecursion (FineField P H) fs
   self-fields {H} l {C} {fs} h e m = cell-fields (subst (FineCell P H l) e (h.cells l (object-here H l e))) m
 
   or-fine : (H : Heap) (o : Option Val) → Fine P H nil → ((v : Val) → o ≡ Some v → Fine P H v) → Fine P H (or_nil o)

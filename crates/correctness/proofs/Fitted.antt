@@ -1,7 +1,7 @@
 -- Every expression within the limits fits a frame: its names have slots, and the registers suffice. Assumes nothing.
 use Rattle.std.proofs.Common.{◌≡◌, ℕ, zero, suc, ◌+◌, ◌*◌, ◌<◌, ◌≤◌, Bool, true, false, cond, ◌||◌, List, [], ◌∷◌, ◌++◌, length, Some, sym, refl, ap, ◌∙◌, subst, arith, length-append}
 use mathlib.Core.Bool.{or_assoc, or-false}
-use Rattle.std.specs.List.{slice_get, AllByRecursion as All}
+use Rattle.std.specs.List.{slice_get, AllByRecursion}
 use Rattle.std.specs.Str.{bytes_eq}
 use Rattle.std.proofs.ByRecursion.{All-append}
 use Rattle.std.proofs.lemmas.Slice.Eq.{bytes_eq-Decides}
@@ -284,21 +284,21 @@ fitted {ps = ps} {e = e} h s =
 abbrev pub MethodFits : {A : Type 0} → Method A → Type 0
 MethodFits m = Fit (slots m.parameters m.body) m.body (free (slots m.parameters m.body))
 
-methods-fitted : {A : Type 0} (ms : List (Method A)) → MethodsWithin ms → All SpelledMethod ms → All MethodFits ms
+methods-fitted : {A : Type 0} (ms : List (Method A)) → MethodsWithin ms → AllByRecursion SpelledMethod ms → AllByRecursion MethodFits ms
 methods-fitted [] h s = tt
 methods-fitted (m ∷ ms) h s = (fitted h.0 s.0.1, methods-fitted ms h.1 s.1)
 
 -- every added method's body fits
-pub all-methods-fitted : {A : Type 0} (P : Classes A) → ClassesWithin P → All SpelledClass P → All MethodFits (all_methods P)
+pub all-methods-fitted : {A : Type 0} (P : Classes A) → ClassesWithin P → AllByRecursion SpelledClass P → AllByRecursion MethodFits (all_methods P)
 all-methods-fitted [] h s = tt
 all-methods-fitted (K ∷ P) h s =
     All-append MethodFits (all_methods P) K.methods (all-methods-fitted P h.1 s.1) (methods-fitted K.methods h.0 s.0)
 
-all-nth : {X : Type 0} (Q : X → Type 0) (xs : List X) (i : ℕ) {x : X} → All Q xs → slice_get xs i ≡ Some x → Q x
+all-nth : {X : Type 0} (Q : X → Type 0) (xs : List X) (i : ℕ) {x : X} → AllByRecursion Q xs → slice_get xs i ≡ Some x → Q x
 all-nth Q [] i h e = let z : ◌≡◌ {A = ℕ} 0 1 = cc in absurd (omega arith)
 all-nth Q (y ∷ xs) zero h e = let q : y ≡ _ = cc in subst Q q h.0
 all-nth Q (y ∷ xs) (suc i) h e = all-nth Q xs i h.1 e
 
 -- the body of the method with number i fits
-pub method-fitted : {A : Type 0} (P : Classes A) (i : ℕ) (m : Method A) → ClassesWithin P → All SpelledClass P → slice_get (all_methods P) i ≡ Some m → MethodFits m
+pub method-fitted : {A : Type 0} (P : Classes A) (i : ℕ) (m : Method A) → ClassesWithin P → AllByRecursion SpelledClass P → slice_get (all_methods P) i ≡ Some m → MethodFits m
 method-fitted P i m h s e = all-nth MethodFits (all_methods P) i (all-methods-fitted P h s) e

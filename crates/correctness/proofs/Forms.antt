@@ -1,6 +1,6 @@
 -- The forms of expressions that touch no table: literals, names, conditionals, loops, sequences. Assumes nothing.
 use Rattle.std.proofs.Common.{◌≡◌, ℕ, suc, ◌+◌, ◌<◌, ◌≤◌, Bool, true, false, cond, List, [], ◌∷◌, pos, Some, None, Option, sym, refl, ◌∙◌, subst, arith}
-use Rattle.std.specs.List.{AllByRecursion as All}
+use Rattle.std.specs.List.{AllByRecursion}
 use Rattle.std.specs.Str.{bytes_eq}
 use Rattle.store.specs.Val.{Val, equal_val}
 use Rattle.store.specs.Tables.{Table, look, put}
@@ -88,7 +88,7 @@ module _ {A : Type 0} (P : Classes A) (L : Limits) (C : Program) (G : Table) (gl
   branch s false h e g x y = step_then (do-if_zero h g (forward _ _ _ e)) (y refl)
 
   -- what a fine table gives is fine
-  look-fine : {H : Heap} (t : Table) (k v : Val) → All (λ p. Fine P H p.1) t → look k t ≡ Some v → Fine P H v
+  look-fine : {H : Heap} (t : Table) (k v : Val) → AllByRecursion (λ p. Fine P H p.1) t → look k t ≡ Some v → Fine P H v
   unfolding look
   look-fine [] k v a e = let z : ◌≡◌ {A = ℕ} 0 1 = cc in absurd (omega arith)
   look-fine {H} (p ∷ t) k v a e = by (equal_val p.0 k) e (look-fine t k v a.1) where
@@ -134,11 +134,11 @@ module _ {A : Type 0} (P : Classes A) (L : Limits) (C : Program) (G : Table) (gl
       (step_then (do-if_zero (head (tail (tail (tail g)))) (has-written R₂ (suc t) (truth false)) (forward _ _ _ refl))
       (done (omega (arith, seg-end g)) (scratched P L (suc t) (truth false) room (omega arith) (scratched P L (suc t) mark room (omega arith) φ)))))))
 
-  put-fine : {H : Heap} (t : Table) (k v : Val) → All (λ p. Fine P H p.1) t → Fine P H v → All (λ p. Fine P H p.1) (put k v t)
+  put-fine : {H : Heap} (t : Table) (k v : Val) → AllByRecursion (λ p. Fine P H p.1) t → Fine P H v → AllByRecursion (λ p. Fine P H p.1) (put k v t)
   unfolding put
   put-fine [] k v a w = (w, tt)
   put-fine {H} (p ∷ t) k v a w = by (equal_val p.0 k) (put-fine t k v a.1 w) where
-    by : (b : Bool) → All (λ p. Fine P H p.1) (put k v t) → All (λ p. Fine P H p.1) (cond b ((p.0, v) ∷ t) (p ∷ put k v t))
+    by : (b : Bool) → AllByRecursion (λ p. Fine P H p.1) (put k v t) → AllByRecursion (λ p. Fine P H p.1) (cond b ((p.0, v) ∷ t) (p ∷ put k v t))
     by true f = (w, a.1)
     by false f = (a.0, f)
 

@@ -1,7 +1,7 @@
 -- Which globals a program uses: nil's, and one for each class. Assumes nothing.
 use Rattle.std.proofs.Common.{◌≡◌, ℕ, zero, suc, ◌+◌, ◌-◌, ◌<◌, ◌≤◌, Bool, true, false, cond, eqb, List, [], ◌∷◌, ◌++◌, map, length, Some, None, codes, Option, refl, arith}
 use lib.ListN.{length-map, length-reverse}
-use Rattle.std.specs.List.{AllByRecursion as All}
+use Rattle.std.specs.List.{AllByRecursion}
 use Rattle.std.specs.Str.{bytes_eq}
 use Rattle.std.proofs.ByRecursion.{All-append}
 use Rattle.std.proofs.lemmas.Slice.Eq.{bytes_eq-Decides}
@@ -49,7 +49,7 @@ place-below (n ∷ ns) x h = place_of (bytes_eq n x) (place_in ns x) (length ns)
 module _ (n : ℕ) where
   -- code whose globals are below n
   abbrev pub Below : Code → Type 0
-  Below c = All (GlobalBelow n) c
+  Below c = AllByRecursion (GlobalBelow n) c
 
   below_both : (a b : Code) → Below a → Below b → Below (a ++ b)
   below_both a b = All-append (GlobalBelow n) a b

@@ -1,6 +1,6 @@
 -- Heaps stay sound as objects are made and written. Assumes nothing.
 use Rattle.std.proofs.Common.{◌≡◌, ℕ, zero, suc, ◌+◌, ◌-◌, ◌<◌, ◌≤◌, Bool, true, false, cond, List, [], ◌∷◌, ◌++◌, length, get_or, Some, codes, sym, refl, ap, ◌∙◌, subst, ⊎_elim, arith}
-use Rattle.std.specs.List.{AllByRecursion as All}
+use Rattle.std.specs.List.{AllByRecursion}
 use Rattle.std.specs.Str.{bytes_eq}
 use Rattle.std.proofs.ByRecursion.{All-weaker}
 use Rattle.std.proofs.lemmas.Slice.Eq.{bytes_eq-Decides}
@@ -22,7 +22,7 @@ pub record KeepsContents (H H' : Heap) : Type 0 where
   pub contents : (l : ℕ) (t : Table) → l < length H → get_or H l no_cell ≡ Cell.contents t → (u : Table) × (get_or H' l no_cell ≡ Cell.contents u)
 
 -- a value under a key of a table of such values
-pub look-all : (Q : Val → Type 0) (t : Table) (k v : Val) → All (λ p. Q p.1) t → look k t ≡ Some v → Q v
+pub look-all : (Q : Val → Type 0) (t : Table) (k v : Val) → AllByRecursion (λ p. Q p.1) t → look k t ≡ Some v → Q v
 unfolding look
 look-all Q [] k v a e = let z : ◌≡◌ {A = ℕ} 0 1 = cc in absurd (omega arith)
 look-all Q (p ∷ t) k v a e = by (equal_val p.0 k) (look-all Q t k v a.1) e where
@@ -31,11 +31,11 @@ look-all Q (p ∷ t) k v a e = by (equal_val p.0 k) (look-all Q t k v a.1) e whe
   by false f g = f g
 
 -- what holds of each pair holds after a write of one more
-pub put_all : (R : Val × Val → Type 0) (t : Table) (k v : Val) → ((p : Val × Val) → R p → R (p.0, v)) → All R t → R (k, v) → All R (put k v t)
+pub put_all : (R : Val × Val → Type 0) (t : Table) (k v : Val) → ((p : Val × Val) → R p → R (p.0, v)) → AllByRecursion R t → R (k, v) → AllByRecursion R (put k v t)
 unfolding put
 put_all R [] k v f a r = (r, tt)
 put_all R (p ∷ t) k v f a r = by (equal_val p.0 k) (put_all R t k v f a.1 r) where
-  by : (b : Bool) → All R (put k v t) → All R (cond b ((p.0, v) ∷ t) (p ∷ put k v t))
+  by : (b : Bool) → AllByRecursion R (put k v t) → AllByRecursion R (cond b ((p.0, v) ∷ t) (p ∷ put k v t))
   by true h = (f p a.0, a.1)
   by false h = (a.0, h)
 
@@ -122,18 +122,18 @@ module _ {A : Type 0} (P : Classes A) where
   cells-grow : {H H' : Heap} → Sound P H → Grows P H H' → KeepsContents H H' → (l : ℕ) → l < length H → FineCell P H' l (get_or H l no_cell)
   cells-grow h g c l b = cell-grows l h.backed g c refl (h.fine.cells l b)
 
-  parts : {H : Heap} {l : ℕ} {x : Cell} {C : List ℕ} {fs : Table} → FineCell P H l x → x ≡ Cell.object C fs → bytes_eq C (codes "Map") ≡ false → (known P C ≡ true) × All (FineField P H) fs × Plain C
+  parts : {H : Heap} {l : ℕ} {x : Cell} {C : List ℕ} {fs : Table} → FineCell P H l x → x ≡ Cell.object C fs → bytes_eq C (codes "Map") ≡ false → (known P C ≡ true) × AllByRecursion (FineField P H) fs × Plain C
   parts {C = C} (a_map h) e m =
       let z : codes "Map" ≡ C = cc in
       absurd (both_ways _ m (ap (λ (D : List ℕ). bytes_eq D (codes "Map")) (sym z)))
   parts {H} {C = C} {fs = gs} (an_object {C = D} {fs = fs} m k a) e n =
       let z : D ≡ C = cc in
       let y : fs ≡ gs = cc in
-      (subst (λ (B : List ℕ). known P B ≡ true) z k, subst (All (FineField P H)) y a, subst Plain z m)
+      (subst (λ (B : List ℕ). known P B ≡ true) z k, subst (AllByRecursion (FineField P H)) y a, subst Plain z m)
   parts (its_contents a) e m = let z : ◌≡◌ {A = ℕ} 0 1 = cc in absurd (omega arith)
 
   -- an object that is no Map has a known class, and fields
-  pub object-parts : {H : Heap} (l : ℕ) {C : List ℕ} {fs : Table} → FineHeap P H → get_or H l no_cell ≡ Cell.object C fs → bytes_eq C (codes "Map") ≡ false → (known P C ≡ true) × All (FineField P H) fs × Plain C
+  pub object-parts : {H : Heap} (l : ℕ) {C : List ℕ} {fs : Table} → FineHeap P H → get_or H l no_cell ≡ Cell.object C fs → bytes_eq C (codes "Map") ≡ false → (known P C ≡ true) × AllByRecursion (FineField P H) fs × Plain C
   object-parts {H} l h e m = parts (h.cells l (object-here H l e)) e m
 
   -- what a Map has
@@ -157,13 +157,13 @@ module _ {A : Type 0} (P : Classes A) where
   pub read-map : {H : Heap} (l : ℕ) {fs : Table} → FineHeap P H → get_or H l no_cell ≡ Cell.object (codes "Map") fs → store.read (tables_of P H) (class_count P + l) contents_key ≡ Some (Val.location (class_count P + suc l))
   read-map {H} l h e = read-contents P H l (e ∙ ap (Cell.object (codes "Map")) (map-parts l h e).place)
 
-  keys_of : {H : Heap} {l : ℕ} {x : Cell} {t : Table} → FineCell P H l x → x ≡ Cell.contents t → All (λ p. Fine P H p.0 × Fine P H p.1) t
+  keys_of : {H : Heap} {l : ℕ} {x : Cell} {t : Table} → FineCell P H l x → x ≡ Cell.contents t → AllByRecursion (λ p. Fine P H p.0 × Fine P H p.1) t
   keys_of (a_map h) e = let z : ◌≡◌ {A = ℕ} 0 1 = cc in absurd (omega arith)
   keys_of (an_object m k a) e = let z : ◌≡◌ {A = ℕ} 0 1 = cc in absurd (omega arith)
-  keys_of {H} {t = u} (its_contents {t = t} a) e = let z : t ≡ u = cc in subst (All (λ p. Fine P H p.0 × Fine P H p.1)) z a
+  keys_of {H} {t = u} (its_contents {t = t} a) e = let z : t ≡ u = cc in subst (AllByRecursion (λ p. Fine P H p.0 × Fine P H p.1)) z a
 
   -- contents have keys and values that are fine
-  pub contents-parts : {H : Heap} (l : ℕ) {t : Table} → FineHeap P H → l < length H → get_or H l no_cell ≡ Cell.contents t → All (λ p. Fine P H p.0 × Fine P H p.1) t
+  pub contents-parts : {H : Heap} (l : ℕ) {t : Table} → FineHeap P H → l < length H → get_or H l no_cell ≡ Cell.contents t → AllByRecursion (λ p. Fine P H p.0 × Fine P H p.1) t
   contents-parts l h b e = keys_of (h.cells l b) e
 
   field-value : {H : Heap} (p : Val × Val) → FineField P H p → Fine P H p.1

@@ -1,6 +1,6 @@
 -- The code of every expression follows its evaluation, at every clock. Assumes nothing.
 use Rattle.std.proofs.Common.{ℕ, zero, suc, arith}
-use Rattle.std.specs.List.{AllByRecursion as All}
+use Rattle.std.specs.List.{AllByRecursion}
 use Rattle.store.specs.Tables.{Table}
 use Rattle.machine.specs.Limits.{Limits}
 use Rattle.machine.proofs.Runs.{run_none}
@@ -22,7 +22,7 @@ use Rattle.correctness.proofs.Objects.{set_field-good}
 use Rattle.correctness.proofs.News.{new-good}
 use Rattle.correctness.proofs.Called.{callables}
 
-module _ {A : Type 0} (P : Classes A) (L : Limits) (main : Expr A) (G : Table) (globals : Globals P G) (accepted : Accepted P) (few : Few P) (within : ClassesWithin P) (spelled : All SpelledClass P) where
+module _ {A : Type 0} (P : Classes A) (L : Limits) (main : Expr A) (G : Table) (globals : Globals P G) (accepted : Accepted P) (few : Few P) (within : ClassesWithin P) (spelled : AllByRecursion SpelledClass P) where
   abbrev at-limits : Setting A
   at-limits = record { classes = P; limits = L }
 

@@ -1,6 +1,6 @@
 -- What holds before and after the code of an expression. Assumes nothing.
 use Rattle.std.proofs.Common.{◌≡◌, ℕ, ◌+◌, ◌<◌, ◌≤◌, List, map, length, arith}
-use Rattle.std.specs.List.{AllByRecursion as All}
+use Rattle.std.specs.List.{AllByRecursion}
 use Rattle.store.specs.Val.{Val}
 use Rattle.store.specs.Tables.{Table}
 use Rattle.machine.specs.Limits.{Limits}
@@ -48,7 +48,7 @@ module _ {A : Type 0} (P : Classes A) (L : Limits) where
     pub stand : Stand P ns me s.locals R
     pub keep : Keep (free ns) t R₀ R
     pub proper : Proper P L me s
-    pub fine : All (Fine P s.heap) vs
+    pub fine : AllByRecursion (Fine P s.heap) vs
     pub grows : Grows P H₀ s.heap
 
   module _ (C : Program) (G : Table) where

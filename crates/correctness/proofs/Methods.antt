@@ -1,6 +1,6 @@
 -- Methods that classes define: the count test, marks, the body, the return. Assumes nothing.
 use Rattle.std.proofs.Common.{◌≡◌, ℕ, zero, suc, ◌+◌, ◌-◌, ◌<◌, ◌≤◌, true, eqb, ◌⊎◌, List, [], ◌∷◌, map, length, Some, refl, ◌∙◌, inl, inr, ⊎_elim, arith}
-use Rattle.std.specs.List.{slice_get, AllByRecursion as All}
+use Rattle.std.specs.List.{slice_get, AllByRecursion}
 use Rattle.std.proofs.lemmas.Bool.{cases_lt}
 use Rattle.store.specs.Val.{Val}
 use Rattle.store.specs.Tables.{Table}
@@ -57,7 +57,7 @@ module _ {A : Type 0} (P : Classes A) (L : Limits) (C : Program) (G : Table) whe
         rest = λ i h. m.rest i (⊎_elim (λ x. inl (omega arith)) (λ x. inr (omega arith)) h) ∙ read-other R r i mark (λ e. ⊎_elim (λ x. omega arith) (λ x. omega arith) h);
       }))))
 
-  all-bound : (H : Heap) (ps : List (List ℕ)) (vs : List Val) → All (Fine P H) vs → All (λ p. Fine P H p.1) (bound ps vs)
+  all-bound : (H : Heap) (ps : List (List ℕ)) (vs : List Val) → AllByRecursion (Fine P H) vs → AllByRecursion (λ p. Fine P H p.1) (bound ps vs)
   all-bound H [] vs a = tt
   all-bound H (x ∷ ps) [] a = tt
   all-bound H (x ∷ ps) (v ∷ vs) a = (a.0, all-bound H ps vs a.1)
@@ -81,7 +81,7 @@ module _ {A : Type 0} (P : Classes A) (L : Limits) (C : Program) (G : Table) whe
         → ((e : Expr A) → Good P L C G k again e) → Fit (slots m.parameters m.body) m.body (free (slots m.parameters m.body))
         → Seg C (18 + i) 0 (method_code P m) q
         → Fetch C f pc (Instr.call a t last) → t < registers_per_frame → d + suc (length S) ≡ 31
-        → Self P s.heap r → All (Fine P s.heap) vs → Sound P s.heap → heap.fits setting s.heap 0 0 ≡ true
+        → Self P s.heap r → AllByRecursion (Fine P s.heap) vs → Sound P s.heap → heap.fits setting s.heap 0 0 ≡ true
         → Sim P C L G k (at (18 + i) 0 (passed (block P L C G globals k again r vs)) (frame f pc R ∷ S) (world P G s)) 20 s.counted f (suc pc) S (Back P L R t s)
         (unless WrongArgumentCount (eqb (length vs) (length m.parameters)) s (enter setting again d (Callee.written i m) r vs s))
     unfolding method_code

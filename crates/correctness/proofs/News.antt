@@ -1,6 +1,6 @@
 -- Objects made, and their initialize. Assumes nothing.
 use Rattle.std.proofs.Common.{◌≡◌, ℕ, suc, ◌+◌, ◌<◌, ◌≤◌, Bool, true, false, cond, not, eqb, List, [], ◌∷◌, ◌++◌, map, length, get_or, pos, Some, None, codes, Option, sym, refl, ap, ◌∙◌, subst, arith}
-use Rattle.std.specs.List.{AllByRecursion as All}
+use Rattle.std.specs.List.{AllByRecursion}
 use Rattle.std.specs.Str.{bytes_eq}
 use Rattle.std.proofs.lemmas.Slice.Eq.{bytes_eq-Decides}
 use Rattle.std.proofs.lemmas.List.{length-map, get_or_at}
@@ -243,7 +243,7 @@ module _ {A : Type 0} (P : Classes A) (L : Limits) (C : Program) (G : Table) (gl
   make-then s D kn zl zb h hs g = make-by s D (bytes_eq D (codes "Integer")) (bytes_eq D (codes "String")) (bytes_eq D (codes "Map")) refl refl refl kn zl zb h hs g
 
   module _ (k : ℕ) (again : Eval A) where
-    all-fine : {H H' : Heap} (vs : List Val) → Grows P H H' → All (Fine P H) vs → All (Fine P H') vs
+    all-fine : {H H' : Heap} (vs : List Val) → Grows P H H' → AllByRecursion (Fine P H) vs → AllByRecursion (Fine P H') vs
     all-fine [] g a = tt
     all-fine (v ∷ vs) g a = (fine-grows P L g a.0, all-fine vs g a.1)
 
@@ -266,7 +266,7 @@ module _ {A : Type 0} (P : Classes A) (L : Limits) (C : Program) (G : Table) (gl
     -- the object's initialize is entered, and what it answers is dropped
     initialize-then : {f p q t d : ℕ} {ns : List (List ℕ)} {me : Val} {S : List Frame} {R₀ : Registers} {H₀ : Heap} {R : Registers} (s : State) (D : List ℕ) (vs : List Val) (f' : Callee A) (b : Bool)
         → Callable P L C G globals k again f' → lookup P D (codes "initialize") ≡ Some f'
-        → known P D ≡ true → Pre P L ns me d t S R₀ H₀ R s → All (Fine P s.heap) vs → t + length vs + 4 < registers_per_frame → Hold R (suc (suc t)) (map (shift P) vs)
+        → known P D ≡ true → Pre P L ns me d t S R₀ H₀ R s → AllByRecursion (Fine P s.heap) vs → t + length vs + 4 < registers_per_frame → Hold R (suc (suc t)) (map (shift P) vs)
         → Seg C f p (cond b (code.make P D (suc t) (t + 2 + length vs) ++ (initialize P f' t (length vs) ++ (Instr.mov t (suc t) ∷ []))) (halt_with t 5)) q
         → Sim P C L G (suc k) (at f p R S (world P G s)) 128 s.counted f q S (Post P L ns me t R₀ H₀)
         (unless WrongArgumentCount b s (meaning.make within D s >>= (λ r s'. framed (setting P L C G globals k again) again d f' r vs s' >>= (λ _ s''. val r s''))))
@@ -296,7 +296,7 @@ module _ {A : Type 0} (P : Classes A) (L : Limits) (C : Program) (G : Table) (gl
 
     create-then : {f p q t d : ℕ} {ns : List (List ℕ)} {me : Val} {S : List Frame} {R₀ : Registers} {H₀ : Heap} {R : Registers} (s : State) (D : List ℕ) (vs : List Val) (o : Option (Callee A))
         → ((f' : Callee A) → o ≡ Some f' → Callable P L C G globals k again f') → lookup P D (codes "initialize") ≡ o → known P D ≡ true
-        → Pre P L ns me d t S R₀ H₀ R s → All (Fine P s.heap) vs → t + length vs + 4 < registers_per_frame → Hold R (suc (suc t)) (map (shift P) vs)
+        → Pre P L ns me d t S R₀ H₀ R s → AllByRecursion (Fine P s.heap) vs → t + length vs + 4 < registers_per_frame → Hold R (suc (suc t)) (map (shift P) vs)
         → Seg C f p (create P o D (length vs) t) q
         → Sim P C L G (suc k) (at f p R S (world P G s)) 128 s.counted f q S (Post P L ns me t R₀ H₀) (initialized (setting P L C G globals k again) again d o D vs s)
     create-then s D vs None cs e kn h ws u hs g = plain_then s D vs _ refl kn h (omega arith) g

@@ -2,7 +2,7 @@
 use Rattle.std.proofs.Common.{◌≡◌, ℕ, zero, suc, ◌+◌, ◌<◌, ◌≤◌, Bool, true, false, eqb, ◌≢◌, List, [], ◌∷◌, ◌++◌, map, length, ℤ, pos, is_some, Some, None, Ok, Err, codes, Option, sym, refl, ap, ◌∙◌, arith}
 use Rattle.std.specs.Fmt.{signed_decimal}
 use Rattle.std.specs.Option.{option_map}
-use Rattle.std.specs.List.{slice_get, AllByRecursion as All}
+use Rattle.std.specs.List.{slice_get, AllByRecursion}
 use Rattle.std.proofs.lemmas.Bool.{false≢true}
 use Rattle.store.specs.Val.{Val, equal_val}
 use Rattle.store.specs.Tables.{Table, look}
@@ -398,7 +398,7 @@ module _ {A : Type 0} (P : Classes A) (L : Limits) (C : Program) (G : Table) (gl
     performed vs (insert z) f n a e = insert-good _ _ z (a.argument-fine 0 (omega arith)) (a.argument-fine 1 (omega arith)) e a.receiver-in (a.argument-in 0 (omega arith)) (a.argument-in 1 (omega arith))
     performed vs (has z) f n a e = has-good _ _ z e a.receiver-in (a.argument-in 0 (omega arith))
 
-  all-at : {H : Heap} (vs : List Val) → All (Fine P H) vs → (i : ℕ) → i < length vs → Fine P H (arg_at vs i)
+  all-at : {H : Heap} (vs : List Val) → AllByRecursion (Fine P H) vs → (i : ℕ) → i < length vs → Fine P H (arg_at vs i)
   all-at [] a i l = absurd (omega arith)
   all-at (v ∷ vs) a zero l = a.0
   all-at (v ∷ vs) a (suc i) l = all-at vs a.1 i (omega arith)
@@ -409,7 +409,7 @@ module _ {A : Type 0} (P : Classes A) (L : Limits) (C : Program) (G : Table) (gl
   nth-shift (v ∷ vs) (suc i) l = nth-shift vs i (omega arith)
 
   -- what is passed is what is found, but for a register above the arguments
-  received : {H : Heap} {R : Registers} (w r : Val) (vs : List Val) → length vs ≤ 2 → All (Fine P H) vs → Except 4 (passed (w ∷ shift P r ∷ map (shift P) vs)) R → Received H R r vs
+  received : {H : Heap} {R : Registers} (w r : Val) (vs : List Val) → length vs ≤ 2 → AllByRecursion (Fine P H) vs → Except 4 (passed (w ∷ shift P r ∷ map (shift P) vs)) R → Received H R r vs
   received w r vs n a x =
       let ws = w ∷ shift P r ∷ map (shift P) vs in
       record {
@@ -440,7 +440,7 @@ module _ {A : Type 0} (P : Classes A) (L : Limits) (C : Program) (G : Table) (gl
   -- a built-in operation's function, entered by a call, tests the number of arguments, performs the operation and answers
   pub operation-good : {k f pc a t final q : ℕ} {S : List Frame} {R : Registers} (s : State) (r : Val) (vs : List Val) (o : Operation)
       → Seg C (operation_function o) 0 (operation_function_code o) q → Fetch C f pc (Instr.call a t final) → t < registers_per_frame
-      → Suits P s.heap o r → Fine P s.heap r → All (Fine P s.heap) vs → Sound P s.heap → fits setting s.heap 0 0 ≡ true
+      → Suits P s.heap o r → Fine P s.heap r → AllByRecursion (Fine P s.heap) vs → Sound P s.heap → fits setting s.heap 0 0 ≡ true
       → Sim P C L G k (at (operation_function o) 0 (passed (number (length vs) ∷ shift P r ∷ map (shift P) vs)) (frame f pc R ∷ S) (world P G s)) 20 s.counted f (suc pc) S (Back P L R t s)
       (evaluation.unless WrongArgumentCount (eqb (length vs) (operation_parameters o)) s (perform setting o r (arg_at vs 0) (arg_at vs 1) (evaluation.count s)))
   operation-good {k = k} {S = S} {R = R} s r vs o e call below u w ws sound space =

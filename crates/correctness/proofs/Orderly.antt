@@ -1,7 +1,7 @@
 -- Accepted classes are orderly: no class and no method that a class finds is named twice. Assumes nothing.
 use Rattle.std.proofs.Common.{◌≡◌, ℕ, suc, ◌<◌, Bool, true, false, not, ◌&&◌, ◌||◌, List, [], ◌∷◌, ◌++◌, map, reverse, length, codes, sym, refl, ap, ◌∙◌, subst, arith}
 use mathlib.Core.List.{reverse_aux}
-use Rattle.std.specs.List.{AllByRecursion as All}
+use Rattle.std.specs.List.{AllByRecursion}
 use Rattle.std.specs.Str.{bytes_eq}
 use Rattle.std.proofs.lemmas.Slice.Eq.{bytes_eq-Decides}
 use Rattle.std.proofs.lemmas.List.{map-append, length-reverse, length-map}
@@ -219,9 +219,9 @@ module _ {A : Type 0} where
   -- each method has a name that is no key of ours
   abbrev pub MethodNames : Classes A → Type 0
   MethodNames [] = Unit {0}
-  MethodNames (K ∷ older) = All (λ m. MethodName m.name) K.methods × MethodNames older
+  MethodNames (K ∷ older) = AllByRecursion (λ m. MethodName m.name) K.methods × MethodNames older
 
-  own-keyless : (ms : List (Method A)) → All (λ m. MethodName m.name) ms → among (map (λ m. m.name) ms) (codes "#name") ≡ false
+  own-keyless : (ms : List (Method A)) → AllByRecursion (λ m. MethodName m.name) ms → among (map (λ m. m.name) ms) (codes "#name") ≡ false
   own-keyless [] a = refl
   own-keyless (m ∷ ms) a =
       or_from (bytes_eq m.name (codes "#name")) (among (map (λ m. m.name) ms) (codes "#name"))

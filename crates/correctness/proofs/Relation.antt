@@ -1,6 +1,6 @@
 -- How the meaning's state stands in the machine: heap in tables, locals in registers. Assumes nothing.
 use Rattle.std.proofs.Common.{◌≡◌, ℕ, suc, ◌+◌, ◌<◌, ◌≤◌, true, false, List, [], ◌∷◌, ◌++◌, map, length, get_or, Some, None, codes, Option}
-use Rattle.std.specs.List.{AllByRecursion as All}
+use Rattle.std.specs.List.{AllByRecursion}
 use Rattle.std.specs.Str.{bytes_eq}
 use Rattle.store.specs.Val.{Val}
 use Rattle.store.specs.Tables.{Table, Tables, look}
@@ -78,8 +78,8 @@ module _ {A : Type 0} (P : Classes A) where
   -- a Map has its contents right behind it; any other object has fields
   pub data FineCell (H : Heap) (l : ℕ) : Cell → Type 0 where
     a_map : {t : Table} → get_or H (suc l) no_cell ≡ Cell.contents t → FineCell H l (Cell.object (codes "Map") ((contents_key, Val.location (suc l)) ∷ []))
-    an_object : {C : List ℕ} {fs : Table} → Plain C → known P C ≡ true → All (FineField H) fs → FineCell H l (Cell.object C fs)
-    its_contents : {t : Table} → All (λ p. Fine H p.0 × Fine H p.1) t → FineCell H l (Cell.contents t)
+    an_object : {C : List ℕ} {fs : Table} → Plain C → known P C ≡ true → AllByRecursion (FineField H) fs → FineCell H l (Cell.object C fs)
+    its_contents : {t : Table} → AllByRecursion (λ p. Fine H p.0 × Fine H p.1) t → FineCell H l (Cell.contents t)
 
   pub record FineHeap (H : Heap) : Type 0 where
     pub cells : (l : ℕ) → l < length H → FineCell H l (get_or H l no_cell)
@@ -112,7 +112,7 @@ module _ {A : Type 0} (P : Classes A) where
   pub record Proper (limits : _) (me : Val) (s : State) : Type 0 where
     pub heap-fine : Sound s.heap
     pub me-fine : Self s.heap me
-    pub locals-fine : All (λ p. Fine s.heap p.1) s.locals
+    pub locals-fine : AllByRecursion (λ p. Fine s.heap p.1) s.locals
     pub space : fits (record { classes = P; limits = limits }) s.heap 0 0 ≡ true
 
 -- the registers from a up to b are as they were

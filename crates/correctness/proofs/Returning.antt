@@ -1,6 +1,6 @@
 -- A callee and what it leaves: the caller's registers but one, and a heap that has grown. Assumes nothing.
 use Rattle.std.proofs.Common.{◌≡◌, ℕ, ◌+◌, ◌≤◌, true, ◌≢◌, List, [], ◌∷◌, length, ◌∙◌, arith}
-use Rattle.std.specs.List.{AllByRecursion as All}
+use Rattle.std.specs.List.{AllByRecursion}
 use Rattle.store.specs.Val.{Val}
 use Rattle.store.specs.Tables.{Table}
 use Rattle.machine.specs.Limits.{Limits}
@@ -54,7 +54,7 @@ module _ {A : Type 0} (P : Classes A) (L : Limits) where
   pub grows_same : {H : Heap} → Grows P H H
   grows_same = record { objects = λ l C fs e. (fs, e) }
 
-  pub all-grows : {H H' : Heap} (t : Table) → Grows P H H' → All (λ p. Fine P H p.1) t → All (λ p. Fine P H' p.1) t
+  pub all-grows : {H H' : Heap} (t : Table) → Grows P H H' → AllByRecursion (λ p. Fine P H p.1) t → AllByRecursion (λ p. Fine P H' p.1) t
   all-grows [] g a = tt
   all-grows (p ∷ t) g a = (fine-grows g a.0, all-grows t g a.1)
 

@@ -1,6 +1,6 @@
 -- The law of compiled rules, from what becomes of a run. Assumes nothing.
 use Rattle.std.proofs.Common.{◌≡◌, ℕ, suc, ◌+◌, ◌-◌, ◌≤◌, Bool, true, false, List, [], ◌∷◌, ◌++◌, length, Some, None, Option, sym, refl, ap, ◌∙◌, subst, arith}
-use Rattle.std.specs.List.{AllByRecursion as All}
+use Rattle.std.specs.List.{AllByRecursion}
 use Rattle.std.proofs.lemmas.Bool.{leb-true}
 use Rattle.store.specs.Tables.{Table}
 use Rattle.machine.specs.declared.ending.Ending.{Ending}
@@ -42,11 +42,11 @@ use Rattle.correctness.proofs.Closing.{Answered, close-then, close-returns}
 use Rattle.correctness.proofs.Induction.{good-at, called_at}
 
 -- a method that is spelled as an identifier has no key's name
-names-of-methods : {A : Type 0} (ms : List (Method A)) → All SpelledMethod ms → All (λ m. MethodName m.name) ms
+names-of-methods : {A : Type 0} (ms : List (Method A)) → AllByRecursion SpelledMethod ms → AllByRecursion (λ m. MethodName m.name) ms
 names-of-methods [] h = tt
 names-of-methods (m ∷ ms) h = (method-name m.name h.0.0.0, names-of-methods ms h.1)
 
-spelled-names : {A : Type 0} (P : Classes A) → All SpelledClass P → MethodNames P
+spelled-names : {A : Type 0} (P : Classes A) → AllByRecursion SpelledClass P → MethodNames P
 spelled-names [] h = tt
 spelled-names (K ∷ P) h = (names-of-methods K.methods h.0, spelled-names P h.1)
 

@@ -1,6 +1,6 @@
 -- How many instructions a program has, and the classes that a rule may stand on. Assumes nothing.
 use Rattle.std.specs.Prelude.{ℕ, ◌+◌, ◌<◌, [], ◌∷◌, length}
-use Rattle.std.specs.List.{AllByRecursion as All}
+use Rattle.std.specs.List.{AllByRecursion}
 use Rattle.machine.specs.Instr.{Instr, Program}
 use Rattle.grammar.specs.Measure.{MethodsWithin}
 use Rattle.rube.specs.Classes.{Classes}
@@ -12,7 +12,7 @@ instructions (c ∷ cs) = length c + instructions cs
 
 -- every method of every class is within the limits
 abbrev pub ClassesWithin : {A : Type 0} → Classes A → Type 0
-ClassesWithin P = All (λ K. MethodsWithin K.methods) P
+ClassesWithin P = AllByRecursion (λ K. MethodsWithin K.methods) P
 
 -- the global that an instruction reads or writes, if it does, is below n
 abbrev pub GlobalBelow : ℕ → Instr → Type 0
@@ -36,4 +36,4 @@ GlobalBelow n (Instr.halt a) = Unit {0}
 
 -- every global of the program is below n
 abbrev pub GlobalsBelow : ℕ → Program → Type 0
-GlobalsBelow n C = All (All (GlobalBelow n)) C
+GlobalsBelow n C = AllByRecursion (AllByRecursion (GlobalBelow n)) C

@@ -1,6 +1,6 @@
 -- The law of compiled rules: on the machine a rule does what its meaning says, is never stuck, and is in time. Assumes nothing.
 use Rattle.std.specs.Prelude.{◌≡◌, ℕ, suc, ◌<◌, ◌≤◌, List, [], map, length}
-use Rattle.std.specs.List.{AllByRecursion as All}
+use Rattle.std.specs.List.{AllByRecursion}
 use Rattle.machine.specs.declared.ending.Ending.{Ending}
 use Rattle.machine.specs.declared.builtin.Builtin.TheVariants.{PrintValue}
 use Rattle.machine.specs.Builtin.{builtin_number}
@@ -34,7 +34,7 @@ module _ {A : Type 0} where
     pub classes-within : ClassesWithin P
     pub rule-within : BodyWithin [] e
     -- names are spelled as the language's tokens
-    pub classes-spelled : All SpelledClass P
+    pub classes-spelled : AllByRecursion SpelledClass P
     pub rule-spelled : Spelled e
 
   -- the compiled rule against its meaning, with a store of this size and so much output left
@@ -62,7 +62,7 @@ pub record Sized {A : Type 0} (P : Classes A) (e : Expr A) : Type 0 where
   pub functions-few : length (program P e) < builtin_number PrintValue
   -- the rule's registers and those of every method are within a frame
   pub rule_fits : Fit (slots [] e) e (free (slots [] e))
-  pub methods-fit : All (λ m. Fit (slots m.parameters m.body) m.body (free (slots m.parameters m.body))) (all_methods P)
+  pub methods-fit : AllByRecursion (λ m. Fit (slots m.parameters m.body) m.body (free (slots m.parameters m.body))) (all_methods P)
 
 abbrev pub CodeLaw : Type 0 → Type 0
 CodeLaw A = (P : Classes A) (e : Expr A) → Compilable P e → Sized P e

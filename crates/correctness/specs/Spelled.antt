@@ -1,5 +1,5 @@
 -- The names of a tree are spelled as the language's tokens. Assumes nothing.
-use Rattle.std.specs.List.{AllByRecursion as All}
+use Rattle.std.specs.List.{AllByRecursion}
 use Rattle.lexer.specs.Law.{Free, Field}
 use Rattle.grammar.specs.Tree.{Expr, Args, Method, Class, Text}
 
@@ -30,7 +30,7 @@ abbrev pub SpelledMethod : {A : Type 0} → Method A → Type 0
 SpelledMethod m = Free m.name × Spelled m.body
 
 abbrev pub SpelledClass : {A : Type 0} → Class A → Type 0
-SpelledClass K = All SpelledMethod K.methods
+SpelledClass K = AllByRecursion SpelledMethod K.methods
 
 abbrev pub SpelledText : {A : Type 0} → Text A → Type 0
 SpelledText (Text.rule e) = Spelled e

@@ -1,6 +1,6 @@
 -- A token that is written somewhere is the one that the definition finds, and none there is longer. Assumes nothing.
 use Rattle.std.proofs.Common.{◌≡◌, ℕ, ◌<◌, Bool, true, false, cond, ◌&&◌, eqb, ltb, ◌⊎◌, List, [], ◌∷◌, ◌++◌, length, get_or, Some, None, Option, refl, ap, ◌∙◌, inl, inr, arith}
-use Rattle.std.specs.List.{AllByRecursion as All}
+use Rattle.std.specs.List.{AllByRecursion}
 use Rattle.std.specs.Str.{bytes_eq}
 use Rattle.std.proofs.lemmas.List.{append_assoc, length-append}
 use Rattle.std.proofs.lemmas.Bool.{and_left, lt-ltb, eqb-true, and_parts}
@@ -59,7 +59,7 @@ small-identifies c e = grind (arith, nat_tests)
 small-no-minus : (c : ℕ) → between 97 122 c ≡ true → eqb c 45 ≡ false
 small-no-minus c e = grind (arith, nat_tests)
 
-small_all : (w : List ℕ) → small w ≡ true → All (λ b. identifying b ≡ true) w
+small_all : (w : List ℕ) → small w ≡ true → AllByRecursion (λ b. identifying b ≡ true) w
 small_all [] e = tt
 small_all (c ∷ w) e = let p = and_parts _ _ e in (small-identifies c p.0, small_all w p.1)
 
@@ -81,15 +81,15 @@ abbrev lone : List ℕ → ℕ → Bool
 lone w d = bytes_eq w (45 ∷ []) && digit d
 
 -- behind a `-` that begins a word there is no digit
-minus-no-digit : (w more : List ℕ) → All (λ b. identifying b ≡ true) w → Stops (lone (45 ∷ w)) more → digit (get_or (w ++ more) 0 0) ≡ false
+minus-no-digit : (w more : List ℕ) → AllByRecursion (λ b. identifying b ≡ true) w → Stops (lone (45 ∷ w)) more → digit (get_or (w ++ more) 0 0) ≡ false
 minus-no-digit [] [] a s = refl
 minus-no-digit [] (c ∷ cs) a s = s
 minus-no-digit (c ∷ w) more a s = identifying-no-digit c a.0
 
-first-minus : (w more : List ℕ) → All (λ b. identifying b ≡ true) w → Stops (lone (45 ∷ w)) more → first (45 ∷ (w ++ more)) ≡ Some (word_of 45 (w ++ more))
+first-minus : (w more : List ℕ) → AllByRecursion (λ b. identifying b ≡ true) w → Stops (lone (45 ∷ w)) more → first (45 ∷ (w ++ more)) ≡ Some (word_of 45 (w ++ more))
 first-minus w more a s = ap (λ t. Some (cond t (integer_of 45 (w ++ more)) (word_of 45 (w ++ more)))) (minus-no-digit w more a s)
 
-word-by : (b : ℕ) (w more : List ℕ) (t : Bool) → eqb b 45 ≡ t → identifying b ≡ true → All (λ c. identifying c ≡ true) w → Stops (lone (b ∷ w)) more → first (b ∷ (w ++ more)) ≡ Some (word_of b (w ++ more))
+word-by : (b : ℕ) (w more : List ℕ) (t : Bool) → eqb b 45 ≡ t → identifying b ≡ true → AllByRecursion (λ c. identifying c ≡ true) w → Stops (lone (b ∷ w)) more → first (b ∷ (w ++ more)) ≡ Some (word_of b (w ++ more))
 word-by b w more true e i a s =
     let m = eqb-true b 45 e in
     rw m (first-minus w more a (rw m at s))
@@ -102,7 +102,7 @@ first_word (b ∷ w) more f s l =
     word-by b w more (eqb b 45) refl f.1.0 f.1.1 l
     ∙ ap (λ x. Some (worded (b ∷ x) (keyword_of (b ∷ x)))) (front-is identifying w more f.1.1 s)
 
-pub first-integer : (b : ℕ) (bs more : List ℕ) → ((digit b ≡ true) ⊎ ((b ≡ 45) × (0 < length bs))) → All (λ d. digit d ≡ true) bs → first (b ∷ (bs ++ more)) ≡ Some (integer_of b (bs ++ more))
+pub first-integer : (b : ℕ) (bs more : List ℕ) → ((digit b ≡ true) ⊎ ((b ≡ 45) × (0 < length bs))) → AllByRecursion (λ d. digit d ≡ true) bs → first (b ∷ (bs ++ more)) ≡ Some (integer_of b (bs ++ more))
 first-integer b bs more (inl d) a = ap (begun b (bs ++ more)) (kind-of-digit b d)
 first-integer b [] more (inr m) a = absurd (omega arith)
 first-integer b (c ∷ cs) more (inr m) a =
@@ -116,7 +116,7 @@ first_field : (w more : List ℕ) → Free w → Stops identifying more → firs
 first_field w more f s =
     ap (λ x. named x (keyword_of x)) (front-is identifying w more f.0.1 s) ∙ named-free w (keyword_of w) f.0.0 f.1
 
-pub first-string : (w more : List ℕ) → All (λ b. goes_on Quoted b ≡ true) w → first (34 ∷ (w ++ 34 ∷ more)) ≡ Some (string w)
+pub first-string : (w more : List ℕ) → AllByRecursion (λ b. goes_on Quoted b ≡ true) w → first (34 ∷ (w ++ 34 ∷ more)) ≡ Some (string w)
 first-string w more a =
     let e = front-is (goes_on Quoted) w (34 ∷ more) a refl in
     let h : length w < length (w ++ 34 ∷ more) = simp length-append (omega arith) in

@@ -1,6 +1,6 @@
 -- No token could have been longer. Assumes nothing.
 use Rattle.std.proofs.Common.{◌≡◌, ℕ, suc, ◌≤◌, Bool, true, false, cond, eqb, List, [], ◌∷◌, ◌++◌, length, get_or, Some, None, Option, sym, refl, ap, ◌∙◌, arith}
-use Rattle.std.specs.List.{AllByRecursion as All}
+use Rattle.std.specs.List.{AllByRecursion}
 use Rattle.std.proofs.lemmas.List.{append_assoc}
 use Rattle.std.proofs.lemmas.Bool.{eqb-true, false≢true}
 use Rattle.lexer.specs.declared.token.Keyword.{Keyword}
@@ -19,20 +19,20 @@ abbrev AtLeast : ℕ → Option Terminal → Type 0
 AtLeast n None = ⊥
 AtLeast n (Some t) = n ≤ length (spelling t)
 
-word-at-least : (b : ℕ) (w other : List ℕ) → All (λ c. identifying c ≡ true) w → suc (length w) ≤ length (spelling (word_of b (w ++ other)))
+word-at-least : (b : ℕ) (w other : List ℕ) → AllByRecursion (λ c. identifying c ≡ true) w → suc (length w) ≤ length (spelling (word_of b (w ++ other)))
 word-at-least b w other a =
     let n = length-worded (b ∷ front identifying (w ++ other)) in
     let m = front-at-least identifying w other a in
     omega arith
 
 -- where a digit follows the `-`, the word was the `-` alone
-minus-at-least : (w other : List ℕ) (t : Bool) → digit (get_or (w ++ other) 0 0) ≡ t → All (λ c. identifying c ≡ true) w
+minus-at-least : (w other : List ℕ) (t : Bool) → digit (get_or (w ++ other) 0 0) ≡ t → AllByRecursion (λ c. identifying c ≡ true) w
     → suc (length w) ≤ length (spelling (cond t (integer_of 45 (w ++ other)) (word_of 45 (w ++ other))))
 minus-at-least [] other true d a = omega arith
 minus-at-least (c ∷ w) other true d a = absurd (false≢true (sym (identifying-no-digit c a.0) ∙ d))
 minus-at-least w other false d a = word-at-least 45 w other a
 
-kind-at-least : (b : ℕ) (w other : List ℕ) (t : Bool) → eqb b 45 ≡ t → All (λ c. identifying c ≡ true) w → AtLeast (suc (length w)) (begun b (w ++ other) (cond t Minus Identifying))
+kind-at-least : (b : ℕ) (w other : List ℕ) (t : Bool) → eqb b 45 ≡ t → AllByRecursion (λ c. identifying c ≡ true) w → AtLeast (suc (length w)) (begun b (w ++ other) (cond t Minus Identifying))
 kind-at-least b w other true e a = rw (eqb-true b 45 e) (minus-at-least w other (digit (get_or (w ++ other) 0 0)) refl a)
 kind-at-least b w other false e a = word-at-least b w other a
 
@@ -51,7 +51,7 @@ at_least n o t e h = rw e at h
 same-token : (o : Option Terminal) (u t : Terminal) → o ≡ Some t → o ≡ Some u → length (spelling u) ≤ length (spelling t)
 same-token o u t e f = let t-is : u ≡ t = cc in rw t-is (omega arith)
 
-integer-at-least : (b : ℕ) (bs other : List ℕ) (t : Terminal) → All (λ d. digit d ≡ true) bs → first (b ∷ (bs ++ other)) ≡ Some t
+integer-at-least : (b : ℕ) (bs other : List ℕ) (t : Terminal) → AllByRecursion (λ d. digit d ≡ true) bs → first (b ∷ (bs ++ other)) ≡ Some t
     → first (b ∷ (bs ++ other)) ≡ Some (integer_of b (bs ++ other)) → suc (length bs) ≤ length (spelling t)
 integer-at-least b bs other t a e f =
     let t-is : integer_of b (bs ++ other) ≡ t = cc in

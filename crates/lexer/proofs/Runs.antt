@@ -1,6 +1,6 @@
 -- Longest fronts: what they hold, where they stop, and that they are the only ones. Assumes nothing.
 use Rattle.std.proofs.Common.{◌≡◌, ℕ, ◌≤◌, Bool, true, false, ◌||◌, List, [], ◌∷◌, ◌++◌, length, drop, sym, refl, ap, ◌∙◌, arith}
-use Rattle.std.specs.List.{AllByRecursion as All}
+use Rattle.std.specs.List.{AllByRecursion}
 use Rattle.std.proofs.lemmas.Bool.{or_from, or_parts}
 use Rattle.lexer.specs.Lexing.{front}
 use Rattle.lexer.specs.Law.{Stops}
@@ -12,7 +12,7 @@ left f bs = drop (length (front f bs)) bs
 
 pub record Split (f : ℕ → Bool) (bs : List ℕ) : Type 0 where
   pub whole : bs ≡ front f bs ++ left f bs
-  pub passing : All (λ b. f b ≡ true) (front f bs)
+  pub passing : AllByRecursion (λ b. f b ≡ true) (front f bs)
   pub stopping : Stops f (left f bs)
 
 split_by : (f : ℕ → Bool) (b : ℕ) (bs : List ℕ) (t : Bool) → f b ≡ t → Split f bs → Split f (b ∷ bs)
@@ -41,11 +41,11 @@ front-at-stop f [] s = front-none f
 front-at-stop f (b ∷ bs) s = front-stops f b bs s
 
 -- bytes that pass, up to one that does not, are the longest front
-pub front-is : (f : ℕ → Bool) (w more : List ℕ) → All (λ b. f b ≡ true) w → Stops f more → front f (w ++ more) ≡ w
+pub front-is : (f : ℕ → Bool) (w more : List ℕ) → AllByRecursion (λ b. f b ≡ true) w → Stops f more → front f (w ++ more) ≡ w
 front-is f [] more a s = front-at-stop f more s
 front-is f (b ∷ w) more a s = front-passes f b (w ++ more) a.0 ∙ ap (λ l. b ∷ l) (front-is f w more a.1 s)
 
-pub front-at-least : (f : ℕ → Bool) (w more : List ℕ) → All (λ b. f b ≡ true) w → length w ≤ length (front f (w ++ more))
+pub front-at-least : (f : ℕ → Bool) (w more : List ℕ) → AllByRecursion (λ b. f b ≡ true) w → length w ≤ length (front f (w ++ more))
 front-at-least f [] more a = omega arith
 front-at-least f (b ∷ w) more a =
     let h = front-at-least f w more a.1 in

@@ -1,7 +1,7 @@
 -- What a text's tokens are, in the words of the language. Assumes nothing.
 use Rattle.std.specs.Prelude.{◌≡◌, ℕ, ◌+◌, ◌<◌, ◌≤◌, Bool, true, false, ◌&&◌, ◌||◌, ◌⊎◌, List, [], ◌∷◌, ◌++◌, length, drop, None, ◌≢◌}
 use Rattle.std.specs.Str.{bytes_eq}
-use Rattle.std.specs.List.{AllByRecursion as All}
+use Rattle.std.specs.List.{AllByRecursion}
 use Rattle.lexer.specs.declared.token.Keyword.{Keyword}
 use Rattle.lexer.specs.declared.byte.Run.TheVariants.{Quoted}
 use Rattle.lexer.specs.Byte.{blank, digit, identifying, goes_on}
@@ -12,12 +12,12 @@ use Rattle.lexer.specs.Tokens.{Placed, Tokens, tokens}
 
 -- one or more characters of identifiers
 abbrev pub Word : List ℕ → Type 0
-Word w = (0 < length w) × All (λ b. identifying b ≡ true) w
+Word w = (0 < length w) × AllByRecursion (λ b. identifying b ≡ true) w
 
 -- digits, with a `-` before them or without
 abbrev pub Number : List ℕ → Type 0
 Number [] = ⊥
-Number (b ∷ bs) = ((digit b ≡ true) ⊎ ((b ≡ 45) × (0 < length bs))) × All (λ d. digit d ≡ true) bs
+Number (b ∷ bs) = ((digit b ≡ true) ⊎ ((b ≡ 45) × (0 < length bs))) × AllByRecursion (λ d. digit d ≡ true) bs
 
 -- an identifier that no keyword is
 abbrev pub Free : List ℕ → Type 0
@@ -33,7 +33,7 @@ abbrev pub Formed : Terminal → Type 0
 Formed (identifier w) = Free w
 Formed (integer w) = Number w
 Formed (field w) = Field w
-Formed (string w) = All (λ b. goes_on Quoted b ≡ true) w
+Formed (string w) = AllByRecursion (λ b. goes_on Quoted b ≡ true) w
 Formed (keyword k) = Unit {0}
 Formed (symbol s) = Unit {0}
 

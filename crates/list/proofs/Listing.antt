@@ -1,7 +1,7 @@
 -- The layout of the list store: a list of keys beside a list of values. Assumes nothing.
 use Rattle.std.proofs.Common.{◌≡◌, ℕ, zero, suc, ◌+◌, ◌<◌, ◌≤◌, true, false, cond, List, [], ◌∷◌, ◌++◌, length, get_or, take, set, Some, None, Option, sym, refl, ap, ◌∙◌, subst, arith}
 use lib.Seq.{take-set-lt}
-use Rattle.std.specs.List.{AllByRecursion as All}
+use Rattle.std.specs.List.{AllByRecursion}
 use Rattle.std.proofs.ByRecursion.{All-weaker, All-set, All-push, All-get_or}
 use Rattle.std.proofs.lemmas.List.{length-take-le, get_or-take, take_more_set}
 use Rattle.std.proofs.lemmas.Bool.{lt-ltb, le-ltb}
@@ -54,7 +54,7 @@ module _ (m : Memory) where
   filed-push (j ∷ ks) [] k v e = absurd (omega arith)
   filed-push (j ∷ ks) (w ∷ vs) k v e = ap (λ (es : List Filed). (place_of m j, meaning m w) ∷ es) (filed-push ks vs k v (omega arith))
 
-filed-grown : (u : ℕ) (m n : Memory) → Grown u m n → (ks : List Key) (vs : List Value) → All (λ (k : Key). end_of k.value ≤ u) ks → All (λ (v : Value). end_of v ≤ u) vs → filed m ks vs ≡ filed n ks vs
+filed-grown : (u : ℕ) (m n : Memory) → Grown u m n → (ks : List Key) (vs : List Value) → AllByRecursion (λ (k : Key). end_of k.value ≤ u) ks → AllByRecursion (λ (v : Value). end_of v ≤ u) vs → filed m ks vs ≡ filed n ks vs
 unfolding filed
 filed-grown u m n g [] vs a b = refl
 filed-grown u m n g (k ∷ ks) [] a b = refl
@@ -97,14 +97,14 @@ module _ (s : ListStore) where
   pub inside-set : (u i : ℕ) (v : Value) → i < s.len → Inside s.keys.now s.values.now s.len u → end_of v ≤ u → Inside s.keys.now (set s.values.now i v) s.len u
   inside-set u i v h a e = (
     a.0,
-    subst (All (λ (x : Value). end_of x ≤ u)) (sym (take-set-lt s.len s.values.now i v h)) (All-set (λ (x : Value). end_of x ≤ u) (take s.len s.values.now) i v e a.1),
+    subst (AllByRecursion (λ (x : Value). end_of x ≤ u)) (sym (take-set-lt s.len s.values.now i v h)) (All-set (λ (x : Value). end_of x ≤ u) (take s.len s.values.now) i v e a.1),
   )
 
   pub inside-push : (u : ℕ) (k : Key) (v : Value) → s.len < s.room → Inside s.keys.now s.values.now s.len u → end_of k.value ≤ u → end_of v ≤ u
       → Inside (set s.keys.now s.len k) (set s.values.now s.len v) (s.len + 1) u
   inside-push u k v lt a e f = (
-    subst (All (λ (x : Key). end_of x.value ≤ u)) (sym (take_more_set s.keys.now s.len k (omega (arith, s.keyed)))) (All-push (λ (x : Key). end_of x.value ≤ u) (take s.len s.keys.now) k a.0 e),
-    subst (All (λ (x : Value). end_of x ≤ u)) (sym (take_more_set s.values.now s.len v (omega (arith, s.valued)))) (All-push (λ (x : Value). end_of x ≤ u) (take s.len s.values.now) v a.1 f),
+    subst (AllByRecursion (λ (x : Key). end_of x.value ≤ u)) (sym (take_more_set s.keys.now s.len k (omega (arith, s.keyed)))) (All-push (λ (x : Key). end_of x.value ≤ u) (take s.len s.keys.now) k a.0 e),
+    subst (AllByRecursion (λ (x : Value). end_of x ≤ u)) (sym (take_more_set s.values.now s.len v (omega (arith, s.valued)))) (All-push (λ (x : Value). end_of x ≤ u) (take s.len s.values.now) v a.1 f),
   )
 
   module _ (m : Memory) (T : Tables) (h : Holds s.keys.now s.values.now s.len s.count m T) where

@@ -1,6 +1,6 @@
 -- A store as one list of keys and one of values, searched from its start. Assumes nothing.
 use Rattle.std.specs.Prelude.{ℕ, ◌≤◌, List, [], ◌∷◌, take}
-use Rattle.std.specs.List.{AllByRecursion as All}
+use Rattle.std.specs.List.{AllByRecursion}
 use Rattle.text.specs.Memory.{Memory}
 use Rattle.store.specs.declared.key.Key.{Key}
 use Rattle.store.specs.declared.value.Value.{Value}
@@ -20,4 +20,4 @@ Holds ks vs len n m T = Files (filed m (take len ks) (take len vs)) n T
 
 -- the first len keys and values end by u among the strings made
 abbrev pub Inside : List Key → List Value → ℕ → ℕ → Type 0
-Inside ks vs len u = All (λ (k : Key). end_of k.value ≤ u) (take len ks) × All (λ (v : Value). end_of v ≤ u) (take len vs)
+Inside ks vs len u = AllByRecursion (λ (k : Key). end_of k.value ≤ u) (take len ks) × AllByRecursion (λ (v : Value). end_of v ≤ u) (take len vs)

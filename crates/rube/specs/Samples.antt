@@ -1,6 +1,6 @@
 -- Sample rules, from the bytes of their texts to how they end. Assumes nothing.
 use Rattle.std.specs.Prelude.{◌≡◌, ℕ, List, [], ◌∷◌, map, Some, None, codes, Option}
-use Rattle.std.specs.List.{AllByRecursion as All}
+use Rattle.std.specs.List.{AllByRecursion}
 use Rattle.lexer.specs.Tokens.{Tokens, tokens}
 use Rattle.machine.specs.declared.ending.Ending.{Ending}
 use Rattle.machine.specs.declared.ending.Ending.TheVariants.{Finished, NoSuchMethod, UnboundLocal, WrongArgumentCount, WrongArgumentKind}
@@ -95,7 +95,7 @@ ending_of (Some r) = Some (r.ending, r.output)
 
 -- every sample ends as its row says
 abbrev pub RowsHold : Type 0
-RowsHold = All (λ x. ending_of (answer x.sample) ≡ Some (x.ending, x.output)) rows
+RowsHold = AllByRecursion (λ x. ending_of (answer x.sample) ≡ Some (x.ending, x.output)) rows
 
 -- what is counted of a sample: rules, classes, pairs, steps before the rule, the bound on steps, the code's bound
 pub record Figures : Type 0 where

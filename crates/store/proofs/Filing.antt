@@ -1,6 +1,6 @@
 -- Tables filed as one list of pairs: make, read and write on the list are those of the tables. Assumes nothing.
 use Rattle.std.proofs.Common.{◌≡◌, ℕ, zero, suc, ◌+◌, ◌<◌, ◌≤◌, Bool, true, false, cond, List, [], ◌∷◌, ◌++◌, map, length, get_or, set, Some, None, sym, refl, ap, ◌∙◌, ⊎_elim, arith}
-use Rattle.std.specs.List.{range_with_len, AllByRecursion as All}
+use Rattle.std.specs.List.{range_with_len, AllByRecursion}
 use Rattle.std.proofs.lemmas.List.FromFn.{length-map-range_with_len, get_or-map-range_with_len, map-range_with_len_more}
 use Rattle.std.proofs.ByRecursion.{All-weaker}
 use Rattle.std.proofs.lemmas.List.{same_lists, get_or_past, length-set, get_or-set_same, get_or-set_other}
@@ -28,7 +28,7 @@ tables-differ f g n l e =
     (λ (p : j ≡ l → ⊥). e j p ∙ sym (get_or-set_other G l j (f l) d p ∙ get_or-map-range_with_len g 0 n j j d h (omega arith)))
     (cases_eq j l))
 
-row-high : (es : List Filed) (n l : ℕ) → All (λ (e : Filed). e.0.0 < n) es → n ≤ l → row_of es l ≡ []
+row-high : (es : List Filed) (n l : ℕ) → AllByRecursion (λ (e : Filed). e.0.0 < n) es → n ≤ l → row_of es l ≡ []
 unfolding row_of
 row-high [] n l a h = refl
 row-high (e ∷ es) n l a h =
@@ -39,7 +39,7 @@ length-tables : (es : List Filed) (n : ℕ) → length (tables_of es n) ≡ n
 unfolding tables_of
 length-tables es n = length-map-range_with_len (row_of es) 0 n
 
-table_at : (es : List Filed) (n l : ℕ) → All (λ (e : Filed). e.0.0 < n) es → get_or (tables_of es n) l [] ≡ row_of es l
+table_at : (es : List Filed) (n l : ℕ) → AllByRecursion (λ (e : Filed). e.0.0 < n) es → get_or (tables_of es n) l [] ≡ row_of es l
 unfolding tables_of
 table_at es n l a = ⊎_elim
     (λ (h : l < n). get_or-map-range_with_len (row_of es) 0 n l l [] h (omega arith))
@@ -59,7 +59,7 @@ tables-cons e es n =
     (λ j p. ap (λ (t : Bool). cond t ((e.0.1, e.1) ∷ row_of es j) (row_of es j)) (ne_eqb e.0.0 j (λ q. p (sym q))))
     ∙ ap (λ (t : Bool). set (tables_of es n) e.0.0 (cond t ((e.0.1, e.1) ∷ row_of es e.0.0) (row_of es e.0.0))) (eq-eqb e.0.0 e.0.0 refl)
 
-pairs-tables : (es : List Filed) (n : ℕ) → All (λ (e : Filed). e.0.0 < n) es → pairs (tables_of es n) ≡ length es
+pairs-tables : (es : List Filed) (n : ℕ) → AllByRecursion (λ (e : Filed). e.0.0 < n) es → pairs (tables_of es n) ≡ length es
 unfolding tables_of
 pairs-tables [] n a = no_pairs 0 n
 pairs-tables (e ∷ es) n a =
@@ -71,11 +71,11 @@ pairs-tables (e ∷ es) n a =
     let s = pairs-tables es n a.1 in
     omega arith
 
-low-file : (p : ℕ × Val) (v : Val) (es : List Filed) (n : ℕ) → p.0 < n → All (λ (e : Filed). e.0.0 < n) es → All (λ (e : Filed). e.0.0 < n) (file p v es)
+low-file : (p : ℕ × Val) (v : Val) (es : List Filed) (n : ℕ) → p.0 < n → AllByRecursion (λ (e : Filed). e.0.0 < n) es → AllByRecursion (λ (e : Filed). e.0.0 < n) (file p v es)
 unfolding file
 low-file p v [] n h a = (h, tt)
 low-file p v (e ∷ es) n h a = by (fits p e) (low-file p v es n h a.1) where
-  by : (t : Bool) → All (λ (x : Filed). x.0.0 < n) (file p v es) → All (λ (x : Filed). x.0.0 < n) (cond t ((e.0, v) ∷ es) (e ∷ file p v es))
+  by : (t : Bool) → AllByRecursion (λ (x : Filed). x.0.0 < n) (file p v es) → AllByRecursion (λ (x : Filed). x.0.0 < n) (cond t ((e.0, v) ∷ es) (e ∷ file p v es))
   by true b = (a.0, a.1)
   by false b = (a.0, b)
 

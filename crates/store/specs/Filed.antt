@@ -1,6 +1,6 @@
 -- Tables as one list of all their pairs, in the order in which the keys first came. Assumes nothing.
 use Rattle.std.specs.Prelude.{◌≡◌, ℕ, ◌<◌, Bool, cond, ◌&&◌, List, [], ◌∷◌, map, ◌==◌}
-use Rattle.std.specs.List.{range_with_len, AllByRecursion as All}
+use Rattle.std.specs.List.{range_with_len, AllByRecursion}
 use Rattle.text.specs.Memory.{Memory}
 use Rattle.store.specs.declared.key.Key.{Key}
 use Rattle.store.specs.Val.{Val, meaning, equal_val}
@@ -35,4 +35,4 @@ tables_of es n = map (row_of es) (range_with_len 0 n)
 -- the pairs es are the n tables T, and no pair is of another table
 pub record Files (es : List ((ℕ × Val) × Val)) (n : ℕ) (T : Tables) : Type 0 where
   pub tables : T ≡ tables_of es n
-  pub low : All (λ (e : (ℕ × Val) × Val). e.0.0 < n) es
+  pub low : AllByRecursion (λ (e : (ℕ × Val) × Val). e.0.0 < n) es
