@@ -16,15 +16,16 @@ use Rattle.grammar.proofs.Steps.{name-halts, only-halts, either-halts, class-hal
 use Rattle.nodes.specs.declared.node.Node.{Node}
 use Rattle.nodes.specs.declared.node.Method.{Method}
 use Rattle.syntax.specs.declared.read.Members.{Members}
+use Rattle.syntax.specs.declared.read.Judged.{Judged}
 use Rattle.syntax.specs.declared.sight.Sort.{Sort}
 use Rattle.syntax.specs.declared.sight.Sort.TheVariants as sort
 use Rattle.syntax.specs.Left.{left, terms, places}
 use Rattle.syntax.specs.Sight.{slice, shown, head_sort}
 use Rattle.nodes.specs.Trees.{span_of}
 use Rattle.syntax.specs.Parsing.{Ahead}
-use Rattle.syntax.specs.Classes.{class_with, MembersRead, MembersRefused}
+use Rattle.syntax.specs.Classes.{class_with, MembersMeasured, MembersRefused}
 use Rattle.syntax.specs.Ended.{TextStuck}
-use Rattle.syntax.specs.Whole.{ClassRead}
+use Rattle.syntax.specs.Whole.{ClassMeasured}
 use Rattle.syntax.proofs.Reading.{Sees, not_first, no_name, terms-see, places-see, ahead_none, ahead-one, ahead-then}
 use Rattle.syntax.proofs.Forms.{Missing, word-seen}
 use Rattle.syntax.proofs.Methods.{step-on}
@@ -87,43 +88,45 @@ module _ {text : List ℕ} where
             pub members-lost : {e : ℕ} → MembersRefused text p5 e → TextStuck Kind.class text e
             members-lost r = record { from = r.from; ahead = ahead-then at5.ahead r.ahead; place = r.place; way = at5.way ∙ r.way (slice text n2 p2) (slice text n4 p4) }
 
-            module _ {base : ℕ} {ys : List Node} {rs : List Method} {a : Members} (A : MembersRead text base p5 ys rs a) where
+            module _ {base : ℕ} {ys : List Node} {rs : List Method} {j : Judged Members} (M : MembersMeasured text base p5 ys rs j) where
               whole-class : tree.Class ℕ
-              whole-class = record { name = slice text n2 p2; parent = slice text n4 p4; methods = A.methods }
+              whole-class = record { name = slice text n2 p2; parent = slice text n4 p4; methods = M.read.methods }
 
-              at6 : At text a.to (State.define (Stage.members (class_with (slice text n2 p2) (slice text n4 p4) A.methods)))
-              at6 = record { ahead = ahead-then at5.ahead A.ahead; way = at5.way ∙ A.way (slice text n2 p2) (slice text n4 p4) }
+              at6 : At text j.read.to (State.define (Stage.members (class_with (slice text n2 p2) (slice text n4 p4) M.read.methods)))
+              at6 = record { ahead = ahead-then at5.ahead M.read.ahead; way = at5.way ∙ M.read.way (slice text n2 p2) (slice text n4 p4) }
 
-              pub class-end-lost : {e : ℕ} → (head_sort (terms text a.to) ≡ Some (sort.Word word.Def) → ⊥) → Missing text a.to (sort.Word word.End) e → TextStuck Kind.class text e
+              pub class-end-lost : {e : ℕ} → (head_sort (terms text j.read.to) ≡ Some (sort.Word word.Def) → ⊥) → Missing text j.read.to (sort.Word word.End) e → TextStuck Kind.class text e
               class-end-lost other h =
                   stops at6
-                  (either-halts (State.define (Stage.members (class_with (slice text n2 p2) (slice text n4 p4) A.methods))) Stop.def _ Stop.end _ _ (λ ρ. refl) refl (not_first _ (keyword word.Def) other) (not_first _ (keyword word.End) h.1))
+                  (either-halts (State.define (Stage.members (class_with (slice text n2 p2) (slice text n4 p4) M.read.methods))) Stop.def _ Stop.end _ _ (λ ρ. refl) refl (not_first _ (keyword word.Def) other) (not_first _ (keyword word.End) h.1))
                   h.0
 
-              module _ {f7 p7 : ℕ} (s7 : Sees text a.to (keyword word.End) f7 p7) where
-                at7 : At text p7 (State.define (Stage.end (class_with (slice text n2 p2) (slice text n4 p4) A.methods)))
-                at7 = go_on (State.define (Stage.end (class_with (slice text n2 p2) (slice text n4 p4) A.methods))) at6 s7 refl
+              module _ {f7 p7 : ℕ} (s7 : Sees text j.read.to (keyword word.End) f7 p7) where
+                at7 : At text p7 (State.define (Stage.end (class_with (slice text n2 p2) (slice text n4 p4) M.read.methods)))
+                at7 = go_on (State.define (Stage.end (class_with (slice text n2 p2) (slice text n4 p4) M.read.methods))) at6 s7 refl
 
                 pub class-left : (s : Sort) (from to : ℕ) → left text p7 ≡ shown text s from to → TextStuck Kind.class text from
                 class-left s from to e =
                     let see : Sees text p7 _ _ _ = record { is = e } in
                     stops at7
-                    (subst (λ r. run r (State.define (Stage.end (class_with (slice text n2 p2) (slice text n4 p4) A.methods))) ≡ Outcome.refused r) (sym (terms-see see)) (class-halts _ _ _))
+                    (subst (λ r. run r (State.define (Stage.end (class_with (slice text n2 p2) (slice text n4 p4) M.read.methods))) ≡ Outcome.refused r) (sym (terms-see see)) (class-halts _ _ _))
                     (sym (ap (first (length text)) (places-see see)))
 
                 pub class-made : {sp sq : Span} → left text p7 ≡ [] → sp ≡ span_of base n2 p2 → sq ≡ span_of base n4 p4 → n2 ≤ p2 → p2 ≤ length text → n4 ≤ p4 → p4 ≤ length text
-                    → ClassRead text base ys rs (record { class = record { name = sp; parent = sq; methods = a.count; nodes = a.nodes }; within = a.within })
+                    → ClassMeasured text base ys rs (record { read = record { name = sp; parent = sq; methods = j.read.count; nodes = j.read.nodes }; within = j.within })
                 unfolding whole-class
                 class-made end e g h2 l2 h4 l4 =
                     record {
-                      class = whole-class;
-                      way = at7.way ∙ over-class _ (terms text p7) (ap (map (λ (p : Placed). p.token)) end);
-                      noted = ap (λ z. (annotate_text 0 (forget_text (Text.class whole-class)) z).tree) (places-see s1 ∙ ap (λ z. f1 ∷ z) (places-see s2 ∙ ap (λ z. n2 ∷ z) (places-see s3 ∙ ap (λ z. f3 ∷ z) (places-see s4 ∙ ap (λ z. n4 ∷ z) (places-see s5)))))
-                          ∙ ap (λ z. Text.class (record { name = slice text n2 p2; parent = slice text n4 p4; methods = z.tree })) A.noted;
-                      within = A.within;
-                      counted = A.counted;
-                      many = A.many;
-                      name = word-seen base n2 p2 e h2 l2;
-                      parent = word-seen base n4 p4 g h4 l4;
-                      held = A.held;
+                      read = record {
+                        class = whole-class;
+                        way = at7.way ∙ over-class _ (terms text p7) (ap (map (λ (p : Placed). p.token)) end);
+                        noted = ap (λ z. (annotate_text 0 (forget_text (Text.class whole-class)) z).tree) (places-see s1 ∙ ap (λ z. f1 ∷ z) (places-see s2 ∙ ap (λ z. n2 ∷ z) (places-see s3 ∙ ap (λ z. f3 ∷ z) (places-see s4 ∙ ap (λ z. n4 ∷ z) (places-see s5)))))
+                            ∙ ap (λ z. Text.class (record { name = slice text n2 p2; parent = slice text n4 p4; methods = z.tree })) M.read.noted;
+                        counted = M.read.counted;
+                        many = M.read.many;
+                        name = word-seen base n2 p2 e h2 l2;
+                        parent = word-seen base n4 p4 g h4 l4;
+                        held = M.read.held;
+                      };
+                      within = M.within;
                     }

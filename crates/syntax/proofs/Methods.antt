@@ -3,7 +3,7 @@ use Rattle.std.proofs.Common.{◌≡◌, ℕ, ◌+◌, ◌-◌, ◌*◌, ◌<◌
 use mathlib.Core.Option.{some}
 use Rattle.std.proofs.lemmas.List.{drop-drop, length-append, length-set, get_or-set_same, get_or-set_other, get_or_append_left, get_or_push, drop-map}
 use Rattle.std.proofs.lemmas.Bool.{cases_lt}
-use Rattle.std.proofs.lemmas.Bool.Decides.{Decides-at, Decides-like, Decides-and}
+use Rattle.std.proofs.lemmas.Bool.Decides.{Decides-like, Decides-and}
 use Rattle.lexer.specs.Token.{Terminal, identifier, keyword, symbol}
 use Rattle.lexer.specs.Tokens.{Placed}
 use Rattle.lexer.specs.declared.token.Keyword.TheVariants as word
@@ -24,13 +24,14 @@ use Rattle.syntax.specs.declared.read.Listed.{Listed}
 use Rattle.nodes.specs.declared.node.Method.{Method}
 use Rattle.syntax.specs.declared.read.Defined.{Defined}
 use Rattle.syntax.specs.declared.read.Members.{Members}
+use Rattle.syntax.specs.declared.read.Judged.{Judged}
 use Rattle.syntax.specs.declared.sight.Sort.TheVariants as sort
 use Rattle.syntax.specs.Left.{left, terms, places}
 use Rattle.syntax.specs.Sight.{slice, head_sort}
 use Rattle.nodes.specs.Trees.{span_of, WordAt}
 use Rattle.syntax.specs.Parsing.{Ahead, Kept, Sequence, Refused, Moves}
 use Rattle.nodes.specs.Methods.{no_span, ParametersAt, MethodAt, MethodsAt}
-use Rattle.syntax.specs.Classes.{Past, Listing, ParametersRead, ParametersRefused, MethodRead, MethodRefused, class_with, MembersRead, MembersRefused, Adds, Keeps}
+use Rattle.syntax.specs.Classes.{Past, Listing, ParametersRead, ParametersRefused, MethodRefused, class_with, MembersRefused, Adds, Keeps, MethodMeasured, MembersMeasured}
 use Rattle.syntax.specs.Sizes.{Knows}
 use Rattle.syntax.proofs.Nodes.{tree-kept}
 use Rattle.syntax.proofs.Sizes.{body-within}
@@ -226,22 +227,24 @@ module _ {text : List ℕ} {p from to : ℕ} (sn : Sees text p (identifier (slic
 
         pub method-made : {fe te : ℕ} {sp : Span} {w : Bool} → Sees text b.to (keyword word.End) fe te → sp ≡ span_of base from to → from ≤ to → to ≤ length text → Moves text l.to n b → length ts ≡ 16
             → Decides w ((l.parameters.count ≤ 4) × (b.size.small ≡ true) × (b.size.depth ≤ 16) × (b.names ≤ 16))
-            → MethodRead text base p xs ys n (record { to = te; nodes = b.nodes; method = record { name = sp; parameters = l.parameters; root = b.root }; within = w })
+            → MethodMeasured text base p xs ys n (record { read = record { to = te; nodes = b.nodes; method = record { name = sp; parameters = l.parameters; root = b.root } }; within = w })
         method-made {fe} {te} {sp} {w} se es h le mb ls judged =
             let x = slice text from to in
             let e = B.parsed.tree in
             record {
-              method = record { name = x; parameters = L.names; body = e };
-              way = λ c. body-on c ∙ B.parsed.reads.way (Context.body c x L.names) (omega arith)
-                  ∙ step-on (State.have (forget e) (Context.body c x L.names)) (State.define (Stage.members (with_method c x L.names (forget e)))) se refl;
-              noted = λ f. ap (annotate_method 0 (record { name = x; parameters = L.names; body = forget e })) (ap (λ z. f ∷ z) (places-see sn ∙ ap (λ z. from ∷ z) (places-see so)))
-                  ∙ note-method f from fo fe x L.names (forget e) e _ _ _
-                  (ap (drop 1) (past_names-is L.names (places text r)) ∙ drop-drop 1 (2 * length L.names - 1) (places text r) ∙ sym (past-places L.past))
-                  (noted-then B.parsed.reads se);
-              ahead = ahead-then ahead-body (ahead-then B.parsed.reads.ahead (ahead-one se));
-              kept = B.parsed.built.kept;
-              held = λ room mem lies. record { name = word-seen base from to es h le mem lies; parameters = L.held mem lies; below = mb.root; body = B.parsed.built.held room mem lies };
-              counted = B.parsed.measured.counted;
+              read = record {
+                method = record { name = x; parameters = L.names; body = e };
+                way = λ c. body-on c ∙ B.parsed.reads.way (Context.body c x L.names) (omega arith)
+                    ∙ step-on (State.have (forget e) (Context.body c x L.names)) (State.define (Stage.members (with_method c x L.names (forget e)))) se refl;
+                noted = λ f. ap (annotate_method 0 (record { name = x; parameters = L.names; body = forget e })) (ap (λ z. f ∷ z) (places-see sn ∙ ap (λ z. from ∷ z) (places-see so)))
+                    ∙ note-method f from fo fe x L.names (forget e) e _ _ _
+                    (ap (drop 1) (past_names-is L.names (places text r)) ∙ drop-drop 1 (2 * length L.names - 1) (places text r) ∙ sym (past-places L.past))
+                    (noted-then B.parsed.reads se);
+                ahead = ahead-then ahead-body (ahead-then B.parsed.reads.ahead (ahead-one se));
+                kept = B.parsed.built.kept;
+                held = λ room mem lies. record { name = word-seen base from to es h le mem lies; parameters = L.held mem lies; below = mb.root; body = B.parsed.built.held room mem lies };
+                counted = B.parsed.measured.counted;
+              };
               within = body-within w L.names e L.many B.parsed.measured.sized (B.parsed.measured.named _ (L.named ls)) judged;
             }
 
@@ -293,42 +296,51 @@ more_within : (ms : List (tree.Method ℕ)) (m : tree.Method ℕ) → MethodsWit
 more_within [] m t = (tt, t.0)
 more_within (x ∷ ms) m t = let r = more_within ms m t.1 in ((t.0, r.0), r.1)
 
-pub no-members : {text : List ℕ} {base p : ℕ} {ys : List Node} {rs : List Method} → MembersRead text base p ys rs (record { to = p; nodes = 0; count = 0; within = true })
-no-members = record { methods = []; way = λ x y. refl; noted = refl; ahead = ahead_none; many = refl; held = λ a b m lies. tt; counted = refl; within = (λ _. tt, λ _. refl) }
+pub no-members : {text : List ℕ} {base p : ℕ} {ys : List Node} {rs : List Method} → MembersMeasured text base p ys rs (record { read = record { to = p; nodes = 0; count = 0 }; within = true })
+no-members = record {
+  read = record { methods = []; way = λ x y. refl; noted = refl; ahead = ahead_none; many = refl; held = λ a b m lies. tt; counted = refl };
+  within = (λ _. tt, λ _. refl);
+}
 
-module _ {text : List ℕ} {base p : ℕ} {xs : List Node} {rs : List Method} {a : Members} (A : MembersRead text base p xs rs a) where
-  module _ {fd td : ℕ} (sd : Sees text a.to (keyword word.Def) fd td) where
-    def-on : (x y : List ℕ) → run (terms text p) (State.define (Stage.members (class_with x y []))) ≡ run (terms text td) (State.define (Stage.def (class_with x y A.methods)))
-    def-on x y = A.way x y ∙ step-on (State.define (Stage.members (class_with x y A.methods))) (State.define (Stage.def (class_with x y A.methods))) sd refl
+-- a judgement by another name
+pub judged-so : {text : List ℕ} {base p : ℕ} {ys : List Node} {rs : List Method} {g : Members} {v w : Bool} → v ≡ w → MembersMeasured text base p ys rs (record { read = g; within = v }) → MembersMeasured text base p ys rs (record { read = g; within = w })
+judged-so {text} {base} {p} {ys} {rs} {g} e M = subst (λ (b : Bool). MembersMeasured text base p ys rs (record { read = g; within = b })) e M
+
+module _ {text : List ℕ} {base p : ℕ} {xs : List Node} {rs : List Method} {j : Judged Members} (M : MembersMeasured text base p xs rs j) where
+  module _ {fd td : ℕ} (sd : Sees text j.read.to (keyword word.Def) fd td) where
+    def-on : (x y : List ℕ) → run (terms text p) (State.define (Stage.members (class_with x y []))) ≡ run (terms text td) (State.define (Stage.def (class_with x y M.read.methods)))
+    def-on x y = M.read.way x y ∙ step-on (State.define (Stage.members (class_with x y M.read.methods))) (State.define (Stage.def (class_with x y M.read.methods))) sd refl
 
     pub member-lost : {e : ℕ} → MethodRefused text td e → MembersRefused text p e
     member-lost r =
-        record { from = r.from; ahead = ahead-then A.ahead (ahead-then (ahead-one sd) r.ahead); place = r.place; way = λ x y. def-on x y ∙ r.way (class_with x y A.methods) }
+        record { from = r.from; ahead = ahead-then M.read.ahead (ahead-then (ahead-one sd) r.ahead); place = r.place; way = λ x y. def-on x y ∙ r.way (class_with x y M.read.methods) }
 
-    pub member-made : {ys : List Node} {ss : List Method} {d : Defined} {g : Members} → MethodRead text base td xs ys a.nodes d → Keeps rs ss a d g → a.nodes ≤ d.nodes → length xs ≡ length ys → MembersRead text base p ys ss g
+    pub member-made : {ys : List Node} {ss : List Method} {d : Judged Defined} {g : Members} → MethodMeasured text base td xs ys j.read.nodes d → Keeps rs ss j.read d.read g → j.read.nodes ≤ d.read.nodes → length xs ≡ length ys
+        → MembersMeasured text base p ys ss (record { read = g; within = j.within && d.within })
     member-made {ys} {ss} {d} {g} D k le l1 =
-        let ms = A.methods in
-        let m = D.method in
+        let ms = M.read.methods in
+        let m = D.read.method in
         record {
-          methods = ms ++ (m ∷ []);
-          way = λ x y. def-on x y ∙ D.way (class_with x y ms)
-              ∙ ap₂ (λ z ns. run (terms text z) (State.define (Stage.members (record { name = x; parent = y; methods = ns })))) (sym k.to_is) (sym (forget-more ms m));
-          noted = ap (λ z. annotate_methods 0 z (places text p)) (forget-more ms m)
-              ∙ note-last (forget_methods ms) (bare_method m) ms m (places text p) (fd ∷ places text td) (places text d.to)
-              (A.noted ∙ ap (λ z. record { tree = ms; rest = z }) (places-see sd)) (D.noted fd)
-              ∙ ap (λ z. record { tree = ms ++ (m ∷ []); rest = places text z }) (sym k.to_is);
-          ahead = subst (Ahead text p) (sym k.to_is) (ahead-then A.ahead (ahead-then (ahead-one sd) D.ahead));
-          many = let q = k.count in let r = A.many in let l = length-append ms (m ∷ []) in omega arith;
-          held = λ room seats mem lies.
-              let q = k.count in
-              let r = A.many in
-              let t = k.nodes in
-              let ls : length ss ≡ length rs = ap length k.table ∙ length-set rs a.count d.method in
-              let old : MethodsAt mem ys d.nodes rs ms = methods-kept mem xs ys a.nodes d.nodes rs ms D.kept le (A.held (omega arith) (omega arith) mem lies) in
-              let new = methods-more mem ys d.nodes rs ms d.method m old (omega arith) (D.held (omega arith) mem lies) in
-              subst (λ z. MethodsAt mem ys z ss (ms ++ (m ∷ []))) (sym t)
-              (subst (λ z. MethodsAt mem ys d.nodes z (ms ++ (m ∷ []))) (sym (k.table ∙ ap (λ z. set rs z d.method) r)) new);
-          counted = k.nodes ∙ D.counted ∙ ap (λ z. z + nodes m.body) A.counted ∙ sym (nodes-more ms m);
-          within = Decides-at g.within (a.within && d.within) k.within
-              (Decides-like (a.within && d.within) (λ h. within_more ms m h.0 h.1) (more_within ms m) (Decides-and a.within d.within A.within D.within));
+          read = record {
+            methods = ms ++ (m ∷ []);
+            way = λ x y. def-on x y ∙ D.read.way (class_with x y ms)
+                ∙ ap₂ (λ z ns. run (terms text z) (State.define (Stage.members (record { name = x; parent = y; methods = ns })))) (sym k.to_is) (sym (forget-more ms m));
+            noted = ap (λ z. annotate_methods 0 z (places text p)) (forget-more ms m)
+                ∙ note-last (forget_methods ms) (bare_method m) ms m (places text p) (fd ∷ places text td) (places text d.read.to)
+                (M.read.noted ∙ ap (λ z. record { tree = ms; rest = z }) (places-see sd)) (D.read.noted fd)
+                ∙ ap (λ z. record { tree = ms ++ (m ∷ []); rest = places text z }) (sym k.to_is);
+            ahead = subst (Ahead text p) (sym k.to_is) (ahead-then M.read.ahead (ahead-then (ahead-one sd) D.read.ahead));
+            many = let q = k.count in let r = M.read.many in let l = length-append ms (m ∷ []) in omega arith;
+            held = λ room seats mem lies.
+                let q = k.count in
+                let r = M.read.many in
+                let t = k.nodes in
+                let ls : length ss ≡ length rs = ap length k.table ∙ length-set rs j.read.count d.read.method in
+                let old : MethodsAt mem ys d.read.nodes rs ms = methods-kept mem xs ys j.read.nodes d.read.nodes rs ms D.read.kept le (M.read.held (omega arith) (omega arith) mem lies) in
+                let new = methods-more mem ys d.read.nodes rs ms d.read.method m old (omega arith) (D.read.held (omega arith) mem lies) in
+                subst (λ z. MethodsAt mem ys z ss (ms ++ (m ∷ []))) (sym t)
+                (subst (λ z. MethodsAt mem ys d.read.nodes z (ms ++ (m ∷ []))) (sym (k.table ∙ ap (λ z. set rs z d.read.method) r)) new);
+            counted = k.nodes ∙ D.read.counted ∙ ap (λ z. z + nodes m.body) M.read.counted ∙ sym (nodes-more ms m);
+          };
+          within = Decides-like (j.within && d.within) (λ h. within_more ms m h.0 h.1) (more_within ms m) (Decides-and j.within d.within M.within D.within);
         }

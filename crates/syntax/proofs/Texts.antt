@@ -16,14 +16,15 @@ use Rattle.nodes.specs.declared.node.Node.{Node}
 use Rattle.syntax.specs.declared.read.Got.{Got}
 use Rattle.nodes.specs.declared.node.Method.{Method}
 use Rattle.syntax.specs.declared.read.Judged.{Judged}
-use Rattle.syntax.specs.declared.read.JudgedRule.{JudgedRule}
+use Rattle.nodes.specs.declared.node.Rule.{Rule}
+use Rattle.nodes.specs.declared.node.Class.{Class}
 use Rattle.nodes.specs.declared.refusal.Refusal.{Refusal}
 use Rattle.nodes.specs.declared.refusal.Refusal.TheVariants.{TooLong, Stray, Unexpected, OverLimit}
 use Rattle.syntax.specs.declared.sight.Sort.{Sort}
 use Rattle.syntax.specs.Left.{left, terms, places}
 use Rattle.syntax.specs.Sight.{shown}
 use Rattle.syntax.specs.Breaks.{kinds, places_of, Lexes, Breaks}
-use Rattle.syntax.specs.Whole.{Written, RuleJudged, TooLarge, TextRefused, RefusedWithin, ClassJudged, ClassRead}
+use Rattle.syntax.specs.Whole.{Written, RuleJudged, TooLarge, TextRefused, RefusedWithin, ClassJudged, ClassMeasured}
 use Rattle.syntax.specs.Parsing.{Sequence, Refused}
 use Rattle.syntax.specs.Ended.{RuleRead, TextStuck, RuleStuck}
 use Rattle.syntax.proofs.Reading.{Sees, terms-see, places-see}
@@ -89,7 +90,7 @@ rule-written {text} {g = g} l R =
 
 -- the rule stands, and whether it is within the limits is known by what was measured of it
 pub rule-judged : {text : List ℕ} {base : ℕ} {xs ys : List Node} {us vs : List Span} {g : Got} (w : Bool) → Lexes text (left text 0) → (R : RuleRead text base xs ys us vs g) → length us ≡ 16
-    → Decides w ((0 ≤ 4) × (g.size.small ≡ true) × (g.size.depth ≤ 16) × (g.names ≤ 16)) → RuleJudged text base ys (record { rule = record { root = g.root; nodes = g.nodes }; within = w })
+    → Decides w ((0 ≤ 4) × (g.size.small ≡ true) × (g.size.depth ≤ 16) × (g.names ≤ 16)) → RuleJudged text base ys (record { read = record { root = g.root; nodes = g.nodes }; within = w })
 rule-judged w l R h d =
     let S = R.sequence.parsed in
     let m = S.measured in
@@ -98,7 +99,7 @@ rule-judged w l R h d =
       within = body-within w [] S.tree refl m.sized (m.named [] (no_names h)) d;
     }
 
-pub rule-too-large : {text : List ℕ} {base : ℕ} {ys : List Node} {g : JudgedRule} → RuleJudged text base ys g → g.within ≡ false → TooLarge Kind.rule text
+pub rule-too-large : {text : List ℕ} {base : ℕ} {ys : List Node} {g : Judged Rule} → RuleJudged text base ys g → g.within ≡ false → TooLarge Kind.rule text
 rule-too-large {g = g} R h = record { tree = Text.rule R.stands.tree; written = R.stands.written; over = not_from_Decides g.within R.within h }
 
 stuck-some : (l : List ℕ) → Stuck l → 0 < length l
@@ -116,8 +117,9 @@ stray-inside text p e =
     let d = length-drop p text in
     omega arith
 
-pub class-judged : {text : List ℕ} {base : ℕ} {ys : List Node} {rs : List Method} {g : Judged} → Lexes text (left text 0) → ClassRead text base ys rs g → ClassJudged text base ys rs g
-class-judged l R =
+pub class-judged : {text : List ℕ} {base : ℕ} {ys : List Node} {rs : List Method} {g : Judged Class} → Lexes text (left text 0) → ClassMeasured text base ys rs g → ClassJudged text base ys rs g
+class-judged l M =
+    let R = M.read in
     record {
       stands = record {
         class = R.class;
@@ -128,10 +130,10 @@ class-judged l R =
         parent = R.parent;
         held = R.held;
       };
-      within = R.within;
+      within = M.within;
     }
 
-pub class-too-large : {text : List ℕ} {base : ℕ} {ys : List Node} {rs : List Method} {g : Judged} → ClassJudged text base ys rs g → g.within ≡ false → TooLarge Kind.class text
+pub class-too-large : {text : List ℕ} {base : ℕ} {ys : List Node} {rs : List Method} {g : Judged Class} → ClassJudged text base ys rs g → g.within ≡ false → TooLarge Kind.class text
 class-too-large {g = g} R h = record { tree = Text.class R.stands.class; written = R.stands.written; over = not_from_Decides g.within R.within h }
 
 -- a text that is refused whatever the limits are is refused with them

@@ -1,5 +1,5 @@
 -- What the parser's functions promise of methods and classes. Assumes nothing.
-use Rattle.std.specs.Prelude.{◌≡◌, ℕ, ◌+◌, ◌-◌, ◌*◌, ◌≤◌, ◌&&◌, List, [], ◌∷◌, ◌++◌, length, drop, Decides, slice_set}
+use Rattle.std.specs.Prelude.{◌≡◌, ℕ, ◌+◌, ◌-◌, ◌*◌, ◌≤◌, List, [], ◌∷◌, ◌++◌, length, drop, Decides, slice_set}
 use Rattle.text.specs.declared.span.Span.{Span}
 use Rattle.text.specs.Memory.{Memory}
 use Rattle.grammar.specs.Tree.{Expr, BareClass}
@@ -13,6 +13,7 @@ use Rattle.syntax.specs.declared.read.Listed.{Listed}
 use Rattle.nodes.specs.declared.node.Method.{Method}
 use Rattle.syntax.specs.declared.read.Defined.{Defined}
 use Rattle.syntax.specs.declared.read.Members.{Members}
+use Rattle.syntax.specs.declared.read.Judged.{Judged}
 use Rattle.nodes.specs.Methods.{ParametersAt, MethodAt, MethodsAt}
 use Rattle.syntax.specs.Left.{left, terms, places}
 use Rattle.syntax.specs.Sight.{slice}
@@ -60,7 +61,11 @@ pub record MethodRead (text : List ℕ) (base p : ℕ) (xs ys : List Node) (n : 
   pub kept : Kept xs ys n
   pub held : g.nodes ≤ length ys → (m : Memory) → Lies m text base → MethodAt m ys g.nodes g.method method
   pub counted : g.nodes ≡ n + nodes method.body
-  pub within : Decides g.within (BodyWithin method.parameters method.body)
+
+-- the same, with what is measured of it
+pub record MethodMeasured (text : List ℕ) (base p : ℕ) (xs ys : List Node) (n : ℕ) (g : Judged Defined) : Type 0 where
+  pub read : MethodRead text base p xs ys n g.read
+  pub within : Decides g.within (BodyWithin read.method.parameters read.method.body)
 
 pub record MethodRefused (text : List ℕ) (p e : ℕ) : Type 0 where
   pub from : ℕ
@@ -81,7 +86,11 @@ pub record MembersRead (text : List ℕ) (base p : ℕ) (ys : List Node) (rs : L
   pub many : g.count ≡ length methods
   pub held : g.nodes ≤ length ys → g.count ≤ length rs → (m : Memory) → Lies m text base → MethodsAt m ys g.nodes rs methods
   pub counted : g.nodes ≡ method_nodes methods
-  pub within : Decides g.within (MethodsWithin methods)
+
+-- the same, with what is measured of them
+pub record MembersMeasured (text : List ℕ) (base p : ℕ) (ys : List Node) (rs : List Method) (g : Judged Members) : Type 0 where
+  pub read : MembersRead text base p ys rs g.read
+  pub within : Decides g.within (MethodsWithin read.methods)
 
 pub record MembersRefused (text : List ℕ) (p e : ℕ) : Type 0 where
   pub from : ℕ
@@ -102,4 +111,3 @@ pub record Keeps (rs ss : List Method) (a : Members) (d : Defined) (g : Members)
   pub nodes : g.nodes ≡ d.nodes
   pub count : g.count ≡ a.count + 1
   pub table : ss ≡ slice_set rs a.count d.method
-  pub within : g.within ≡ (a.within && d.within)

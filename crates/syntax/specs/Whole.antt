@@ -12,7 +12,6 @@ use Rattle.nodes.specs.declared.node.Node.{Node}
 use Rattle.nodes.specs.declared.node.Method.{Method}
 use Rattle.nodes.specs.declared.node.Class.{Class}
 use Rattle.syntax.specs.declared.read.Judged.{Judged}
-use Rattle.syntax.specs.declared.read.JudgedRule.{JudgedRule}
 use Rattle.nodes.specs.declared.node.Rule.{Rule}
 use Rattle.nodes.specs.declared.refusal.Refusal.{Refusal}
 use Rattle.nodes.specs.declared.refusal.Refusal.TheVariants.{TooLong, Stray, Unexpected, OverLimit}
@@ -43,8 +42,8 @@ pub record RuleWithin (text : List ℕ) (base : ℕ) (nodes : List Node) (r : Ru
   pub within : WithinLimits (Text.rule stands.tree)
 
 -- and it is known whether it is within the limits
-pub record RuleJudged (text : List ℕ) (base : ℕ) (nodes : List Node) (g : JudgedRule) : Type 0 where
-  pub stands : RuleStands text base nodes g.rule
+pub record RuleJudged (text : List ℕ) (base : ℕ) (nodes : List Node) (g : Judged Rule) : Type 0 where
+  pub stands : RuleStands text base nodes g.read
   pub within : Decides g.within (WithinLimits (Text.rule stands.tree))
 
 -- the text has no tokens
@@ -90,18 +89,22 @@ pub record ClassWithin (text : List ℕ) (base : ℕ) (nodes : List Node) (metho
   pub within : WithinLimits (Text.class stands.class)
 
 -- and it is known whether it is within the limits
-pub record ClassJudged (text : List ℕ) (base : ℕ) (nodes : List Node) (methods : List Method) (g : Judged) : Type 0 where
-  pub stands : ClassStands text base nodes methods g.class
+pub record ClassJudged (text : List ℕ) (base : ℕ) (nodes : List Node) (methods : List Method) (g : Judged Class) : Type 0 where
+  pub stands : ClassStands text base nodes methods g.read
   pub within : Decides g.within (WithinLimits (Text.class stands.class))
 
--- the same, as the machine reads it, with what is measured of it
-pub record ClassRead (text : List ℕ) (base : ℕ) (nodes : List Node) (methods : List Method) (g : Judged) : Type 0 where
+-- the same, as the machine reads it
+pub record ClassRead (text : List ℕ) (base : ℕ) (nodes : List Node) (methods : List Method) (r : Class) : Type 0 where
   pub class : tree.Class ℕ
   pub way : parse Kind.class (terms text 0) ≡ Outcome.accepted (forget_text (Text.class class))
   pub noted : (annotate_text 0 (forget_text (Text.class class)) (places text 0)).tree ≡ Text.class class
-  pub within : Decides g.within (WithinLimits (Text.class class))
-  pub counted : g.class.nodes ≡ text_nodes (Text.class class)
-  pub many : g.class.methods ≡ length class.methods
-  pub name : (m : Memory) → Lies m text base → WordAt m g.class.name class.name
-  pub parent : (m : Memory) → Lies m text base → WordAt m g.class.parent class.parent
-  pub held : g.class.nodes ≤ length nodes → g.class.methods ≤ length methods → (m : Memory) → Lies m text base → MethodsAt m nodes g.class.nodes methods class.methods
+  pub counted : r.nodes ≡ text_nodes (Text.class class)
+  pub many : r.methods ≡ length class.methods
+  pub name : (m : Memory) → Lies m text base → WordAt m r.name class.name
+  pub parent : (m : Memory) → Lies m text base → WordAt m r.parent class.parent
+  pub held : r.nodes ≤ length nodes → r.methods ≤ length methods → (m : Memory) → Lies m text base → MethodsAt m nodes r.nodes methods class.methods
+
+-- and with what is measured of it
+pub record ClassMeasured (text : List ℕ) (base : ℕ) (nodes : List Node) (methods : List Method) (g : Judged Class) : Type 0 where
+  pub read : ClassRead text base nodes methods g.read
+  pub within : Decides g.within (WithinLimits (Text.class read.class))

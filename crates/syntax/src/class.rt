@@ -6,9 +6,9 @@ ghost use Rattle.syntax.specs.declared.sight.Sort.TheVariants as sort;
 ghost use Rattle.syntax.specs.Left.{terms};
 ghost use Rattle.syntax.specs.Sight.{head_sort};
 ghost use Rattle.nodes.specs.Methods.{no_span};
-ghost use Rattle.syntax.specs.Classes.{ParametersRead, ParametersRefused, MethodRead, MethodRefused, MembersRead, MembersRefused, Adds, Keeps};
+ghost use Rattle.syntax.specs.Classes.{ParametersRead, ParametersRefused, MethodMeasured, MethodRefused, MembersMeasured, MembersRefused, Adds, Keeps};
 ghost use Rattle.syntax.specs.Ended.{TextStuck};
-ghost use Rattle.syntax.specs.Whole.{TextRefused, RefusedWithin, ClassStands, ClassWithin, ClassJudged, ClassRead};
+ghost use Rattle.syntax.specs.Whole.{TextRefused, RefusedWithin, ClassStands, ClassWithin, ClassJudged, ClassMeasured};
 
 use crate::expression::sequence;
 use crate::limits::within;
@@ -100,25 +100,27 @@ fn method(
     nodes: &mut [Node],
     names: &mut [Span],
     n: u16,
-) -> Result<Defined, Stuck>
+) -> Result<Judged<Defined>, Stuck>
     requires short { length text.now ≤ 4096 }
     requires few { n ≤ at }
     requires room { length names.old ≡ 16 }
-    ensures moves { IfOk result (λ g. (at < g.to) × (g.to ≤ length text.now) × (n < g.nodes) × (g.nodes ≤ g.to)) }
-    ensures reads { MatchResult result (λ g. MethodRead text.now base at nodes.old nodes.new n g) (λ s. MethodRefused text.now at s.0) }
+    ensures moves { IfOk result (λ g. (at < g.read.to) × (g.read.to ≤ length text.now) × (n < g.read.nodes) × (g.read.nodes ≤ g.read.to)) }
+    ensures reads { MatchResult result (λ g. MethodMeasured text.now base at nodes.old nodes.new n g) (λ s. MethodRefused text.now at s.0) }
 {
     let called = name(text, at)?;
     let open = expect(text, called.to, Sort::Sign(Symbol::OpenParen))?;
     let listed = parameters(text, base, open, names)?;
     let body = sequence(text, base, listed.to, nodes, names, n, listed.names)?;
     let to = expect(text, body.to, Sort::Word(Keyword::End))?;
-    Ok(Defined {
-        to,
-        nodes: body.nodes,
-        method: Method {
-            name: span(base, called.from, called.to),
-            parameters: listed.parameters,
-            root: body.root,
+    Ok(Judged {
+        read: Defined {
+            to,
+            nodes: body.nodes,
+            method: Method {
+                name: span(base, called.from, called.to),
+                parameters: listed.parameters,
+                root: body.root,
+            },
         },
         within: within(listed.parameters.count, body.size, body.names),
     })
@@ -137,7 +139,6 @@ fn keep(methods: &mut [Method], members: Members, defined: Defined) -> Members
         to: defined.to,
         nodes: defined.nodes,
         count: members.count + 1,
-        within: members.within && defined.within,
     }
 }
 
@@ -149,24 +150,25 @@ fn members(
     nodes: &mut [Node],
     methods: &mut [Method],
     names: &mut [Span],
-) -> Result<Members, Stuck>
+) -> Result<Judged<Members>, Stuck>
     requires short { length text.now ≤ 4096 }
     requires inside { at ≤ length text.now }
     requires room { length names.old ≡ 16 }
-    ensures moves { IfOk result (λ g. (at ≤ g.to) × (g.to ≤ length text.now) × (g.nodes ≤ g.to)) }
-    ensures reads { MatchResult result (λ g. MembersRead text.now base at nodes.new methods.new g × (head_sort (terms text.now g.to) ≢ Some (sort.Word word.Def))) (λ s. MembersRefused text.now at s.0) }
+    ensures moves { IfOk result (λ g. (at ≤ g.read.to) × (g.read.to ≤ length text.now) × (g.read.nodes ≤ g.read.to)) }
+    ensures reads { MatchResult result (λ g. MembersMeasured text.now base at nodes.new methods.new g × (head_sort (terms text.now g.read.to) ≢ Some (sort.Word word.Def))) (λ s. MembersRefused text.now at s.0) }
 {
     let mut all = Members {
         to: at,
         nodes: 0,
         count: 0,
-        within: true,
     };
+    let mut within = true;
     while let Some(to) = after(text, all.to, Sort::Word(Keyword::Def)) {
         let defined = method(text, base, to, nodes, names, all.nodes)?;
-        all = keep(methods, all, defined);
+        all = keep(methods, all, defined.read);
+        within = within && defined.within;
     }
-    Ok(all)
+    Ok(Judged { read: all, within })
 }
 
 // `class` name `<` parent `begin` methods `end`, up to the text's end.
@@ -176,10 +178,10 @@ fn whole(
     nodes: &mut [Node],
     methods: &mut [Method],
     names: &mut [Span],
-) -> Result<Judged, Stuck>
+) -> Result<Judged<Class>, Stuck>
     requires short { length text.now ≤ 4096 }
     requires room { length names.old ≡ 16 }
-    ensures reads { MatchResult result (λ g. ClassRead text.now base nodes.new methods.new g) (λ s. TextStuck Kind.class text.now s.0) }
+    ensures reads { MatchResult result (λ g. ClassMeasured text.now base nodes.new methods.new g) (λ s. TextStuck Kind.class text.now s.0) }
 {
     let to = expect(text, 0, Sort::Word(Keyword::Class))?;
     let called = name(text, to)?;
@@ -187,14 +189,14 @@ fn whole(
     let parent = name(text, to)?;
     let to = expect(text, parent.to, Sort::Word(Keyword::Begin))?;
     let all = members(text, base, to, nodes, methods, names)?;
-    let to = expect(text, all.to, Sort::Word(Keyword::End))?;
+    let to = expect(text, all.read.to, Sort::Word(Keyword::End))?;
     match look(text, to) {
         None => Ok(Judged {
-            class: Class {
+            read: Class {
                 name: span(base, called.from, called.to),
                 parent: span(base, parent.from, parent.to),
-                methods: all.count,
-                nodes: all.nodes,
+                methods: all.read.count,
+                nodes: all.read.nodes,
             },
             within: all.within,
         }),
@@ -208,14 +210,14 @@ fn judged(
     base: u16,
     nodes: &mut [Node],
     methods: &mut [Method],
-) -> Result<Judged, Refusal>
+) -> Result<Judged<Class>, Refusal>
     ensures the_one_tree_or_the_refusal { MatchResult result (λ g. ClassJudged text.now base nodes.new methods.new g) (λ f. TextRefused Kind.class text.now f) }
 {
     check(text)?;
     let none = no_span();
     let mut names = [none; 16];
     match whole(text, base, nodes, methods, &mut names) {
-        Ok(read) => Ok(read),
+        Ok(class) => Ok(class),
         Err(stuck) => Err(Refusal::Unexpected(stuck.0)),
     }
 }
@@ -230,7 +232,7 @@ pub fn parse_class(
     ensures the_one_tree_or_the_refusal { MatchResult result (λ class. ClassStands text.now base nodes.new methods.new class) (λ f. TextRefused Kind.class text.now f) }
 {
     match judged(text, base, nodes, methods) {
-        Ok(read) => Ok(read.class),
+        Ok(class) => Ok(class.read),
         Err(refusal) => Err(refusal),
     }
 }
@@ -245,7 +247,7 @@ pub fn judge_class(
     ensures the_one_tree_within_the_limits_or_the_refusal { MatchResult result (λ class. ClassWithin text.now base nodes.new methods.new class) (λ f. RefusedWithin Kind.class text.now f) }
 {
     match judged(text, base, nodes, methods) {
-        Ok(read) if read.within => Ok(read.class),
+        Ok(class) if class.within => Ok(class.read),
         Ok(_) => Err(Refusal::OverLimit),
         Err(refusal) => Err(refusal),
     }

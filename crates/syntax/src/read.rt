@@ -1,5 +1,5 @@
 // What the parser's functions hand up of what they read.
-use nodes::node::{Arguments, Class, Method, Parameters, Rule};
+use nodes::node::{Arguments, Method, Parameters};
 
 // What the limits ask of an expression: its depth, with 17 for all that is deeper than 16, and whether its literals and its lists of arguments are small enough.
 #[derive(Clone, Copy)]
@@ -50,34 +50,25 @@ pub struct Listed {
     pub names: u8,
 }
 
-// A method that was read: how many nodes there are so far, and whether it is within the limits.
+// A method that was read, and how many nodes there are so far.
 #[derive(Clone, Copy)]
 pub struct Defined {
     pub to: u16,
     pub nodes: u16,
     pub method: Method,
-    pub within: bool,
 }
 
-// Methods that were read: how many nodes and methods there are so far, and whether each is within the limits.
+// Methods that were read: how many nodes and methods there are so far.
 #[derive(Clone, Copy)]
 pub struct Members {
     pub to: u16,
     pub nodes: u16,
     pub count: u16,
-    pub within: bool,
 }
 
-// A rule that was read, and whether it is within the limits.
+// What was read, and whether it is within the limits.
 #[derive(Clone, Copy)]
-pub struct JudgedRule {
-    pub rule: Rule,
-    pub within: bool,
-}
-
-// A class that was read, and whether it is within the limits.
-#[derive(Clone, Copy)]
-pub struct Judged {
-    pub class: Class,
+pub struct Judged<T> {
+    pub read: T,
     pub within: bool,
 }

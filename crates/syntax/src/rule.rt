@@ -9,7 +9,7 @@ ghost use Rattle.syntax.specs.Ended.{RuleRead, RuleStuck};
 
 use crate::expression::sequence;
 use crate::limits::{TEXT, within};
-use crate::read::{Got, JudgedRule, Stuck};
+use crate::read::{Got, Judged, Stuck};
 use crate::sight::look;
 use lexer::check_text;
 use nodes::node::{Node, Rule};
@@ -42,7 +42,7 @@ fn whole(text: &[u8], base: u16, nodes: &mut [Node], names: &mut [Span]) -> Resu
 }
 
 // The rule that the text is, with whether it is within the limits; or its refusal.
-fn judged(text: &[u8], base: u16, nodes: &mut [Node]) -> Result<JudgedRule, Refusal>
+fn judged(text: &[u8], base: u16, nodes: &mut [Node]) -> Result<Judged<Rule>, Refusal>
     ensures the_one_tree_or_the_refusal { MatchResult result (λ g. RuleJudged text.now base nodes.new g) (λ f. TextRefused Kind.rule text.now f) }
 {
     check(text)?;
@@ -52,8 +52,8 @@ fn judged(text: &[u8], base: u16, nodes: &mut [Node]) -> Result<JudgedRule, Refu
         len: 0,
     }; 16];
     match whole(text, base, nodes, &mut names) {
-        Ok(g) => Ok(JudgedRule {
-            rule: Rule {
+        Ok(g) => Ok(Judged {
+            read: Rule {
                 root: g.root,
                 nodes: g.nodes,
             },
@@ -68,7 +68,7 @@ pub fn parse_rule(text: &[u8], base: u16, nodes: &mut [Node]) -> Result<Rule, Re
     ensures the_one_tree_or_the_refusal { MatchResult result (λ rule. RuleStands text.now base nodes.new rule) (λ f. TextRefused Kind.rule text.now f) }
 {
     match judged(text, base, nodes) {
-        Ok(read) => Ok(read.rule),
+        Ok(rule) => Ok(rule.read),
         Err(refusal) => Err(refusal),
     }
 }
@@ -78,7 +78,7 @@ pub fn judge_rule(text: &[u8], base: u16, nodes: &mut [Node]) -> Result<Rule, Re
     ensures the_one_tree_within_the_limits_or_the_refusal { MatchResult result (λ rule. RuleWithin text.now base nodes.new rule) (λ f. RefusedWithin Kind.rule text.now f) }
 {
     match judged(text, base, nodes) {
-        Ok(read) if read.within => Ok(read.rule),
+        Ok(rule) if rule.within => Ok(rule.read),
         Ok(_) => Err(Refusal::OverLimit),
         Err(refusal) => Err(refusal),
     }

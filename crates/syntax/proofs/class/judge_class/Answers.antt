@@ -5,10 +5,10 @@ use Rattle.syntax.proofs.class.judge_class.Goals as goal
 pub returns-in-Ok : goal.returns-in-Ok
 returns-in-Ok c =
     let R = c.in-Ok.ensures.the_one_tree_or_the_refusal in
-    record { the_one_tree_within_the_limits_or_the_refusal = record { stands = R.stands; within = R.within.0 c.if-read.true } }
+    record { the_one_tree_within_the_limits_or_the_refusal = record { stands = R.stands; within = R.within.0 c.if-class.true } }
 
 pub returns-in-Ok-2 : goal.returns-in-Ok-2
-returns-in-Ok-2 c = record { the_one_tree_within_the_limits_or_the_refusal = class-too-large c.in-Ok.ensures.the_one_tree_or_the_refusal c.if-read.false }
+returns-in-Ok-2 c = record { the_one_tree_within_the_limits_or_the_refusal = class-too-large c.in-Ok.ensures.the_one_tree_or_the_refusal c.if-class.false }
 
 pub returns-in-Err : goal.returns-in-Err
 returns-in-Err c = record { the_one_tree_within_the_limits_or_the_refusal = refused-within Kind.class c.args.text.now c.in-Err.refusal c.in-Err.ensures.the_one_tree_or_the_refusal }
