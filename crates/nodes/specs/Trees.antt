@@ -1,5 +1,5 @@
 -- Trees in a node table. Assumes nothing.
-use Rattle.std.specs.Prelude.{◌≡◌, List, ℕ, ◌+◌, ◌-◌, ◌%◌, ◌^◌, ◌<◌, length, slice_index, slice_index_or}
+use Rattle.std.specs.Prelude.{◌≡◌, List, ℕ, ℤ, ◌+◌, ◌-◌, ◌%◌, ◌^◌, ◌<◌, length, slice_index, slice_index_or}
 use Rattle.text.specs.declared.span.Space.TheVariants.{Texts}
 use Rattle.text.specs.declared.span.Span.{Span}
 use Rattle.text.specs.Memory.{Memory, bytes_of}
@@ -34,7 +34,7 @@ NodeAt xs i p f = at xs i ≡ record { place = p; form = f }
 abbrev mutual
   -- the tree stands at the node i, each part at a smaller index than the whole; a node has the place of its expression
   pub TreeAt : Memory → List Node → ℕ → Expr ℕ → Type 0
-  TreeAt m xs i (Expr.int p w) = (v : lib.IntN.ℤ) × NodeAt xs i p (Int v) × (Fits w → v ≡ value_of w)
+  TreeAt m xs i (Expr.int p w) = (v : ℤ) × NodeAt xs i p (Int v) × (Fits w → v ≡ value_of w)
   TreeAt m xs i (Expr.nil p) = NodeAt xs i p Nil
   TreeAt m xs i (Expr.self p) = NodeAt xs i p SelfWord
   TreeAt m xs i (Expr.string p w) = (s : Span) × NodeAt xs i p (Str s) × WordAt m s w

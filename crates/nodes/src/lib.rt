@@ -1,4 +1,4 @@
-// Trees and classes in lent tables, and the refusals of texts that have none.
+// Trees and classes in lent tables, and the refusals of texts.
 #![tactic(auto)]
 
 pub mod node;

@@ -2,7 +2,6 @@ use Rattle.std.proofs.Common.{sym, ◌∙◌}
 use Rattle.calls.proofs.Stacked.{popped, latest}
 use Rattle.calls.proofs.waiting.resume.Goals as goal
 
--- src/waiting.rt:20:1
 pub returns : goal.returns
 returns c =
     let r = c.resume-stack.ensures in

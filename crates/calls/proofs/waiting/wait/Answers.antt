@@ -2,7 +2,6 @@ use Rattle.std.proofs.Common.{sym, ◌∙◌}
 use Rattle.calls.proofs.Stacked.{pushed}
 use Rattle.calls.proofs.waiting.wait.Goals as goal
 
--- src/waiting.rt:11:1
 pub returns : goal.returns
 returns c =
     let r = c.resume-stack.ensures in

@@ -2,7 +2,6 @@ use Rattle.std.proofs.Common.{[], ◌∷◌, ◌++◌, refl, subst}
 use Rattle.code.specs.Laying.{Lays}
 use Rattle.code.proofs.table.Open.lay_jump.Goals as goal
 
--- src/table/laying.rt:76:5
 pub returns-in-Ok : goal.returns-in-Ok
 returns-in-Ok c =
     let e = c.in-Ok.ensures in

@@ -2,7 +2,6 @@ use Rattle.std.proofs.Common.{refl, arith}
 use Rattle.code.specs.Programs.{code_at, program_at}
 use Rattle.code.proofs.table.Open.new.Goals as goal
 
--- src/table/laying.rt:38:5
 pub returns : goal.returns
 unfolding code_at program_at
 returns c =

@@ -4,7 +4,6 @@ use Rattle.code.proofs.Laying.{more-functions}
 use Rattle.code.proofs.table.Open.seal.Goals as goal
 use Rattle.code.proofs.table.Open.seal.Goals.{then-n-lt-FUNCTIONS, else-n-lt-FUNCTIONS}
 
--- src/table/laying.rt:115:5
 pub returns : goal.returns
 returns c =
     record {

@@ -9,7 +9,6 @@ use Rattle.code.proofs.table.OpenJump.land.Goals.{
   else-at-len-via-else-at-len,
 }
 
--- src/table/laying.rt:132:5
 pub returns-then-i-records : goal.returns-then-i-records
 returns-then-i-records c =
     record {
@@ -22,7 +21,6 @@ returns-then-i-records c =
       origins_kept = origins-kept c.args.records.now _ _ _ refl;
     }
 
--- src/table/laying.rt:132:5
 pub returns-else-at-len : goal.returns-else-at-len
 returns-else-at-len c =
     record {

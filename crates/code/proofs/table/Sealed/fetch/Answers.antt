@@ -2,11 +2,9 @@ use Rattle.std.proofs.Common.{sym, ◌∙◌, arith}
 use Rattle.code.proofs.Fetching.{no-function, of_function, past-code, past-table, in_code, stands_at}
 use Rattle.code.proofs.table.Sealed.fetch.Goals as goal
 
--- src/table.rt:42:13
 pub returns-then-f-self : goal.returns-then-f-self
 returns-then-f-self c = record { of_the_program = λ m. sym (no-function m _ _ _ _ _ (omega arith)); in_the_table = tt; placed = tt }
 
--- src/table.rt:46:13
 pub returns-then-pc-extent : goal.returns-then-pc-extent
 returns-then-pc-extent c =
     record {
@@ -15,7 +13,6 @@ returns-then-pc-extent c =
       placed = tt;
     }
 
--- src/table.rt:50:13
 pub returns-then-at-records : goal.returns-then-at-records
 returns-then-at-records c =
     record {
@@ -24,7 +21,6 @@ returns-then-at-records c =
       placed = tt;
     }
 
--- src/table.rt:37:5
 pub returns : goal.returns
 returns c =
     record {
