@@ -41,7 +41,7 @@ pub record RuleWithin (text : List ℕ) (base : ℕ) (nodes : List Node) (r : Ru
   pub stands : RuleStands text base nodes r
   pub within : WithinLimits (Text.rule stands.tree)
 
--- and it is known whether it is within the limits
+-- or it is only known whether it is within the limits
 pub record RuleJudged (text : List ℕ) (base : ℕ) (nodes : List Node) (g : Judged Rule) : Type 0 where
   pub stands : RuleStands text base nodes g.read
   pub within : Decides g.within (WithinLimits (Text.rule stands.tree))
@@ -66,7 +66,7 @@ pub record TooLarge (κ : Kind) (text : List ℕ) : Type 0 where
   pub written : Written κ text tree
   pub over : WithinLimits tree → ⊥
 
--- the same, where a text that is over the limits is refused too
+-- the text is refused so, where a text that is over the limits is refused too
 abbrev pub RefusedWithin : Kind → List ℕ → Refusal → Type 0
 RefusedWithin κ text TooLong = TextRefused κ text TooLong
 RefusedWithin κ text (Stray p) = TextRefused κ text (Stray p)
@@ -88,12 +88,12 @@ pub record ClassWithin (text : List ℕ) (base : ℕ) (nodes : List Node) (metho
   pub stands : ClassStands text base nodes methods r
   pub within : WithinLimits (Text.class stands.class)
 
--- and it is known whether it is within the limits
+-- or it is only known whether it is within the limits
 pub record ClassJudged (text : List ℕ) (base : ℕ) (nodes : List Node) (methods : List Method) (g : Judged Class) : Type 0 where
   pub stands : ClassStands text base nodes methods g.read
   pub within : Decides g.within (WithinLimits (Text.class stands.class))
 
--- the same, as the machine reads it
+-- the class in its tables, as the machine reads it
 pub record ClassRead (text : List ℕ) (base : ℕ) (nodes : List Node) (methods : List Method) (r : Class) : Type 0 where
   pub class : tree.Class ℕ
   pub way : parse Kind.class (terms text 0) ≡ Outcome.accepted (forget_text (Text.class class))
