@@ -302,10 +302,6 @@ no-members = record {
   within = (λ _. tt, λ _. refl);
 }
 
--- a judgement by another name
-pub judged-so : {text : List ℕ} {base p : ℕ} {ys : List Node} {rs : List Method} {g : Members} {v w : Bool} → v ≡ w → MembersMeasured text base p ys rs (record { read = g; within = v }) → MembersMeasured text base p ys rs (record { read = g; within = w })
-judged-so {text} {base} {p} {ys} {rs} {g} e M = subst (λ (b : Bool). MembersMeasured text base p ys rs (record { read = g; within = b })) e M
-
 module _ {text : List ℕ} {base p : ℕ} {xs : List Node} {rs : List Method} {j : Judged Members} (M : MembersMeasured text base p xs rs j) where
   module _ {fd td : ℕ} (sd : Sees text j.read.to (keyword word.Def) fd td) where
     def-on : (x y : List ℕ) → run (terms text p) (State.define (Stage.members (class_with x y []))) ≡ run (terms text td) (State.define (Stage.def (class_with x y M.read.methods)))

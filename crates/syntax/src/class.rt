@@ -166,7 +166,7 @@ fn members(
     while let Some(to) = after(text, all.to, Sort::Word(Keyword::Def)) {
         let defined = method(text, base, to, nodes, names, all.nodes)?;
         all = keep(methods, all, defined.read);
-        within = within && defined.within;
+        within &= defined.within;
     }
     Ok(Judged { read: all, within })
 }

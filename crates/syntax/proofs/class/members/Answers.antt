@@ -1,6 +1,6 @@
-use Rattle.std.proofs.Common.{◌&&◌, sym, ap, ◌∙◌, arith}
+use Rattle.std.proofs.Common.{arith}
 use Rattle.std.proofs.lemmas.Result.{err_from_is_err_and}
-use Rattle.syntax.proofs.Methods.{no-members, judged-so, member-lost, member-made}
+use Rattle.syntax.proofs.Methods.{no-members, member-lost, member-made}
 use Rattle.syntax.proofs.class.members.Goals as goal
 
 pub loop-to-init : goal.loop-to-init
@@ -11,33 +11,13 @@ returns-in_err-defined c =
     let p = err_from_is_err_and c.from_residual.result c.from_residual.ensures.1 in
     rw (p.1, p.2) (record { moves = tt; reads = member-lost c.loop-to.invariant.4 (record { is = c.in-Some.ensures.found.1 }) c.in_err-defined.ensures.reads })
 
-pub loop-to-preserved-then-within : goal.loop-to-preserved-then-within
-loop-to-preserved-then-within c =
-    let i = c.in-Some.ensures.inside in
-    let m = c.in_ok-defined.ensures.moves in
-    let k = c.keep-all.ensures.kept in
-    let v = c.loop-to.invariant in (
-      omega arith,
-      omega arith,
-      omega arith,
-      omega arith,
-      judged-so (ap (λ b. b && c.in_ok-defined.defined.within) c.if-within.true)
-          (member-made v.4 (record { is = c.in-Some.ensures.found.1 }) c.in_ok-defined.ensures.reads k (omega arith) (omega arith)),
-    )
-
 pub loop-to-preserved : goal.loop-to-preserved
 loop-to-preserved c =
     let i = c.in-Some.ensures.inside in
     let m = c.in_ok-defined.ensures.moves in
     let k = c.keep-all.ensures.kept in
-    let v = c.loop-to.invariant in (
-      omega arith,
-      omega arith,
-      omega arith,
-      omega arith,
-      judged-so (ap (λ b. b && c.in_ok-defined.defined.within) c.if-within.false ∙ sym c.if-within.false)
-          (member-made v.4 (record { is = c.in-Some.ensures.found.1 }) c.in_ok-defined.ensures.reads k (omega arith) (omega arith)),
-    )
+    let v = c.loop-to.invariant in
+    (omega arith, omega arith, omega arith, omega arith, member-made v.4 (record { is = c.in-Some.ensures.found.1 }) c.in_ok-defined.ensures.reads k (omega arith) (omega arith))
 
 pub returns : goal.returns
 returns c =
