@@ -1,5 +1,5 @@
 // What a stack does; the slice stays its lender's, and no item of it is lost.
-ghost use Rattle.std.specs.Prelude.{◌≡◌, ◌+◌, ◌<◌, ◌≤◌, [], ◌∷◌, ◌++◌, length, take, drop, MatchBool, MatchOption, MatchResult, ◌==◌, slice_index_or};
+ghost use Rattle.std.specs.Prelude.{◌≡◌, ◌+◌, ◌<◌, ◌≤◌, [], ◌∷◌, ◌++◌, length, take, drop, MatchOption, MatchResult, ◌==◌, slice_index_or};
 ghost use Rattle.stack.specs.Held.{held, beyond, room, front};
 
 use crate::Stack;
@@ -12,7 +12,7 @@ impl<'a, T: Copy> Stack<'a, T> {
         ensures room { room result ≡ length items.old }
         ensures lender { result.items.ghost_name ≡ items.entry.ghost_name }
     {
-        Stack { items, len: 0 }
+        Stack::resume(items, 0)
     }
 
     // A stack of the first `len` items, or of all if there are fewer.
@@ -55,24 +55,14 @@ impl<'a, T: Copy> Stack<'a, T> {
     pub fn get(&self, i: usize) -> Option<T>
         ensures { MatchOption result (length (held self.now) ≤ i) (λ x. (i < length (held self.now)) × ((d : T) → slice_index_or (held self.now) i d ≡ x)) }
     {
-        let items = self.items();
-        if i < items.len() {
-            Some(items[i])
-        } else {
-            None
-        }
+        self.items().get(i).copied()
     }
 
     // The newest item.
     pub fn top(&self) -> Option<T>
         ensures { MatchOption result (held self.now ≡ []) (λ x. held self.now ≡ front (held self.now) ++ x ∷ []) }
     {
-        let items = self.items();
-        if items.len() == 0 {
-            None
-        } else {
-            Some(items[items.len() - 1])
-        }
+        self.items().last().copied()
     }
 
     // Adds an item; a full stack hands it back and stays as it was.
@@ -107,18 +97,18 @@ impl<'a, T: Copy> Stack<'a, T> {
         Some(self.items[self.len])
     }
 
-    // Puts another item in place of the newest; an empty stack refuses.
-    pub fn set_top(&mut self, x: T) -> bool
+    // Puts another item in place of the newest; an empty stack hands it back.
+    pub fn set_top(&mut self, x: T) -> Result<(), T>
         ensures lender { self.new.items.ghost_name ≡ self.old.items.ghost_name }
         ensures room { room self.new ≡ room self.old }
         ensures count { length (held self.new) ≡ length (held self.old) }
-        ensures held { MatchBool result ((0 < length (held self.old)) × (held self.new ≡ front (held self.old) ++ x ∷ [])) ((held self.old ≡ []) × (held self.new ≡ [])) }
+        ensures held { MatchResult result (λ _. (0 < length (held self.old)) × (held self.new ≡ front (held self.old) ++ x ∷ [])) (λ y. (y ≡ x) × (held self.old ≡ []) × (held self.new ≡ [])) }
         ensures beyond { beyond self.new ≡ beyond self.old }
     {
         if self.is_empty() {
-            return false;
+            return Err(x);
         }
         self.items[self.len - 1] = x;
-        true
+        Ok(())
     }
 }

@@ -26,12 +26,7 @@ pub fn first_equal<E: Entry>(entries: &[E], key: &E, bytes: Bytes<'_, '_, '_>) -
     ensures within { IfSome result (λ i. i < length entries.now) }
     ensures first { First (λ e. E.Entry.means (memory_of bytes.entry) e ≡ E.Entry.means (memory_of bytes.entry) key.now) entries.now result }
 {
-    for i in 0..entries.len() {
-        if entries[i].same(key, bytes) {
-            return Some(i);
-        }
-    }
-    None
+    entries.iter().position(|e| e.same(key, bytes))
 }
 
 // Names are equal when their bytes are.

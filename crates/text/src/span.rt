@@ -3,14 +3,14 @@ ghost use Rattle.std.specs.Prelude.{◌≡◌, Decides, slice_index};
 ghost use Rattle.text.specs.Memory.{memory_of, byte_of, bytes_of};
 
 // The fixed names, the texts that the caller lends, and the strings that the run made.
-#[derive(Clone, Copy, PartialEq, Eq)]
+#[derive(Clone, Copy, PartialEq, Eq, Debug)]
 pub enum Space {
     Fixed,
     Texts,
     Made,
 }
 
-#[derive(Clone, Copy)]
+#[derive(Clone, Copy, PartialEq, Eq, Debug)]
 pub struct Span {
     pub space: Space,
     pub start: u16,
@@ -28,7 +28,7 @@ pub struct Bytes<'f, 't, 'm> {
 fn byte_or_zero(bytes: &[u8], i: usize) -> u8
     ensures { result ≡ slice_index bytes.now i }
 {
-    if i < bytes.len() { bytes[i] } else { 0 }
+    bytes.get(i).copied().unwrap_or(0)
 }
 
 // A byte of a space; past the end of what is lent it is 0.
@@ -50,17 +50,9 @@ pub fn same_span(bytes: Bytes<'_, '_, '_>, a: Span, b: Span) -> bool
         return false;
     }
     // the same place: no byte need be read
-    if a.start == b.start && a.space == b.space {
-        return true;
-    }
-    let p = a.start as usize;
-    let q = b.start as usize;
-    for i in 0..a.len as usize {
-        let x = byte_at(bytes, a.space, p + i);
-        let y = byte_at(bytes, b.space, q + i);
-        if x != y {
-            return false;
-        }
-    }
-    true
+    a == b
+        || (0..a.len as usize).all(|i| {
+            byte_at(bytes, a.space, a.start as usize + i)
+                == byte_at(bytes, b.space, b.start as usize + i)
+        })
 }
