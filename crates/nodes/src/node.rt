@@ -1,12 +1,21 @@
 // The nodes of trees, in a table: parts stand before the whole.
-ghost use Rattle.std.specs.Prelude.{◌≡◌, ◌+◌, ◌-◌, ◌^◌, ◌<◌, [], ◌∷◌, slice_set};
+ghost use Rattle.std.specs.Prelude.{◌≡◌, ◌+◌, ◌-◌, ◌^◌, ◌<◌, [], ◌∷◌, take, slice_set};
+ghost use Rattle.nodes.specs.Methods.{no_span};
 
-use text::span::Span;
+use text::span::{Space, Span};
 
-// The arguments of a call, and the parameters of a method.
+// How many arguments of a call are kept, and how many parameters of a method.
 pub const ARGUMENTS: u16 = 4;
 
+// A name of no bytes.
+const NO_NAME: Span = Span {
+    space: Space::Texts,
+    start: 0,
+    len: 0,
+};
+
 // The arguments of a call: how many there are, and where the first four stand.
+// (A struct for this and for parameters would need an array of a type parameter, which no generic struct has.)
 #[derive(Clone, Copy)]
 pub struct Arguments {
     pub count: u16,
@@ -19,7 +28,7 @@ impl Arguments {
     {
         Arguments {
             count: 0,
-            roots: [0, 0, 0, 0],
+            roots: [0; 4],
         }
     }
 
@@ -38,11 +47,19 @@ impl Arguments {
             roots,
         }
     }
+
+    // Where the first four stand, or all if there are fewer.
+    pub fn kept(&self) -> &[u16]
+        ensures the_first { result.now ≡ take self.now.count self.now.roots }
+    {
+        &self.roots[..self.count.min(ARGUMENTS) as usize]
+    }
 }
 
-#[derive(Clone, Copy)]
+#[derive(Clone, Copy, Default)]
 pub enum Form {
     Int(i32),
+    #[default]
     Nil,
     SelfWord,
     Str(Span),
@@ -59,7 +76,7 @@ pub enum Form {
 }
 
 // A node, with the byte of the text where its expression begins.
-#[derive(Clone, Copy)]
+#[derive(Clone, Copy, Default)]
 pub struct Node {
     pub place: u16,
     pub form: Form,
@@ -79,12 +96,56 @@ pub struct Parameters {
     pub names: [Span; 4],
 }
 
+impl Parameters {
+    pub fn none() -> Parameters
+        ensures { result ≡ record { count = 0; names = no_span ∷ no_span ∷ no_span ∷ no_span ∷ [] } }
+    {
+        Parameters {
+            count: 0,
+            names: [NO_NAME; 4],
+        }
+    }
+
+    // One more parameter; only the names of the first four are kept.
+    pub fn with(self, name: Span) -> Parameters
+        requires { self.count < 2 ^ 16 - 1 }
+        ensures counted { result.count ≡ self.count + 1 }
+        ensures kept { result.names ≡ slice_set self.names self.count name }
+    {
+        let mut names = self.names;
+        if self.count < ARGUMENTS {
+            names[self.count as usize] = name;
+        }
+        Parameters {
+            count: self.count + 1,
+            names,
+        }
+    }
+
+    // The names of the first four, or of all if there are fewer.
+    pub fn kept(&self) -> &[Span]
+        ensures the_first { result.now ≡ take self.now.count self.now.names }
+    {
+        &self.names[..self.count.min(ARGUMENTS) as usize]
+    }
+}
+
 // A method: its name, its parameters, and the root of its body.
 #[derive(Clone, Copy)]
 pub struct Method {
     pub name: Span,
     pub parameters: Parameters,
     pub root: u16,
+}
+
+impl Default for Method {
+    fn default() -> Method {
+        Method {
+            name: NO_NAME,
+            parameters: Parameters::none(),
+            root: 0,
+        }
+    }
 }
 
 // A class: its name, its parent's, how many methods are recorded, and how many nodes their bodies have.

@@ -2,7 +2,7 @@
 ghost use Rattle.std.specs.Prelude.{◌≡◌};
 ghost use Rattle.nodes.specs.Refusal.{number_of, place_of};
 
-#[derive(Clone, Copy)]
+#[derive(Clone, Copy, Debug, PartialEq, Eq)]
 pub enum Refusal {
     // more bytes than a text may have
     TooLong,
@@ -32,10 +32,8 @@ impl Refusal {
         ensures by_its_case { result ≡ place_of self }
     {
         match self {
-            Refusal::TooLong => 0,
-            Refusal::Stray(place) => place,
-            Refusal::Unexpected(place) => place,
-            Refusal::OverLimit => 0,
+            Refusal::Stray(place) | Refusal::Unexpected(place) => place,
+            Refusal::TooLong | Refusal::OverLimit => 0,
         }
     }
 }
