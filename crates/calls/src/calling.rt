@@ -10,7 +10,7 @@ use crate::frame::{Calls, Frame, REGISTERS};
 use crate::passing::enter;
 use code::table::Place;
 use effects::spent::Spent;
-use machine::builtin::Builtin;
+use machine::builtin::{Builtin, NotBuiltin};
 use machine::ending::Ending;
 use machine::instruction::Register;
 use operands::registers::function;
@@ -74,10 +74,10 @@ pub fn call(
 {
     let base = REGISTERS * calls.waiting;
     let name = function(&registers[base..base + REGISTERS], a)?;
-    match Builtin::named(name) {
-        Some(builtin) => answer(
+    match Builtin::try_from(name) {
+        Ok(builtin) => answer(
             builtin, first, last, calls, callers, registers, fixed, texts, made, spent, out,
         ),
-        None => enter(name, first, last, calls, callers, registers),
+        Err(NotBuiltin) => enter(name, first, last, calls, callers, registers),
     }
 }

@@ -1,5 +1,7 @@
 -- How a run ends: the numbers of the endings and what is said of them. Assumes nothing.
 use Rattle.std.specs.Prelude.{ℕ, List, [], codes}
+use Rattle.store.specs.declared.Refusal.{Refusal}
+use Rattle.store.specs.declared.Refusal.TheVariants as refusal
 use Rattle.machine.specs.declared.ending.Ending.{Ending}
 use Rattle.machine.specs.declared.ending.Ending.TheVariants.{
   Finished,
@@ -56,3 +58,8 @@ message_of NoOutputSpace = codes "halt: No space for output"
 message_of Dropped = []
 message_of Stuck = []
 message_of NotEnded = []
+
+-- how a run ends at a store's refusal
+abbrev pub ended_by : Refusal → Ending
+ended_by refusal.NoTable = Stuck
+ended_by refusal.Full = NoTableSpace

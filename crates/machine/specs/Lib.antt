@@ -8,5 +8,6 @@ pub mod Instr
 pub mod State
 pub mod Operands
 pub mod Step
+pub mod Named
 pub mod Run
 pub mod Law

@@ -4,7 +4,7 @@ ghost use Rattle.machine.specs.Arith.{arith, quotient, in_order};
 
 use crate::ending::Ending;
 
-#[derive(Clone, Copy)]
+#[derive(Clone, Copy, Debug, PartialEq, Eq)]
 pub enum Op {
     Add,
     Sub,
@@ -12,20 +12,23 @@ pub enum Op {
     Div,
 }
 
-#[derive(Clone, Copy)]
+#[derive(Clone, Copy, Debug, PartialEq, Eq)]
 pub enum Order {
     Less,
     AtMost,
 }
 
-pub fn compute(op: Op, a: i32, b: i32) -> Result<i32, Ending>
-    ensures the_arithmetic { result ≡ arith op a b }
-{
-    match op {
-        Op::Add => Ok(a.wrapping_add(b)),
-        Op::Sub => Ok(a.wrapping_sub(b)),
-        Op::Mul => Ok(a.wrapping_mul(b)),
-        Op::Div => divide(a, b),
+impl Op {
+    #[tactic(auto, using(std::proofs::lemmas::Int::wraps), unfolding(crate::specs::Arith::arith))]
+    pub fn compute(self, a: i32, b: i32) -> Result<i32, Ending>
+        ensures the_arithmetic { result ≡ arith self a b }
+    {
+        match self {
+            Op::Add => Ok(a.wrapping_add(b)),
+            Op::Sub => Ok(a.wrapping_sub(b)),
+            Op::Mul => Ok(a.wrapping_mul(b)),
+            Op::Div => divide(a, b),
+        }
     }
 }
 
@@ -39,11 +42,13 @@ fn divide(a: i32, b: i32) -> Result<i32, Ending>
     }
 }
 
-pub fn in_order(order: Order, a: i32, b: i32) -> bool
-    ensures the_order { result ≡ in_order order a b }
-{
-    match order {
-        Order::Less => a < b,
-        Order::AtMost => a <= b,
+impl Order {
+    pub fn holds(self, a: i32, b: i32) -> bool
+        ensures the_order { result ≡ in_order self a b }
+    {
+        match self {
+            Order::Less => a < b,
+            Order::AtMost => a <= b,
+        }
     }
 }

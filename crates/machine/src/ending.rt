@@ -1,49 +1,37 @@
 // How a run ends.
 ghost use Rattle.std.specs.Prelude.{◌≡◌, ◌<◌, ◌≤◌, ◌++◌, length, drop, MatchOption};
-ghost use Rattle.machine.specs.Ending.{number_of, message_of};
+ghost use Rattle.machine.specs.declared.ending.Ending.TheVariants.{Stuck};
+ghost use Rattle.machine.specs.Ending.{number_of, message_of, ended_by};
+ghost use Rattle.machine.specs.Named.{Asked};
 
-#[derive(Clone, Copy)]
+use store::{NoTable, Refusal};
+
+// Each by its number, which is what a program's reader is told.
+#[derive(Clone, Copy, Debug, PartialEq, Eq)]
 pub enum Ending {
-    Finished,
-    NoSuchMethod,
-    NoSuchClass,
-    CannotInstantiateBot,
-    UnboundLocal,
-    WrongArgumentCount,
-    WrongArgumentKind,
-    NoSuchKey,
-    DivisionByZero,
-    NoTableSpace,
-    NoTextSpace,
-    NoFrameSpace,
-    NoOutputSpace,
-    Dropped,
-    Stuck,
-    NotEnded,
+    Finished = 0,
+    NoSuchMethod = 1,
+    NoSuchClass = 2,
+    CannotInstantiateBot = 3,
+    UnboundLocal = 4,
+    WrongArgumentCount = 5,
+    WrongArgumentKind = 6,
+    NoSuchKey = 7,
+    DivisionByZero = 8,
+    NoTableSpace = 9,
+    NoTextSpace = 10,
+    NoFrameSpace = 11,
+    NoOutputSpace = 12,
+    Dropped = 13,
+    Stuck = 14,
+    NotEnded = 15,
 }
 
 impl Ending {
     pub fn number(self) -> u8
         ensures its_number { result ≡ number_of self }
     {
-        match self {
-            Ending::Finished => 0,
-            Ending::NoSuchMethod => 1,
-            Ending::NoSuchClass => 2,
-            Ending::CannotInstantiateBot => 3,
-            Ending::UnboundLocal => 4,
-            Ending::WrongArgumentCount => 5,
-            Ending::WrongArgumentKind => 6,
-            Ending::NoSuchKey => 7,
-            Ending::DivisionByZero => 8,
-            Ending::NoTableSpace => 9,
-            Ending::NoTextSpace => 10,
-            Ending::NoFrameSpace => 11,
-            Ending::NoOutputSpace => 12,
-            Ending::Dropped => 13,
-            Ending::Stuck => 14,
-            Ending::NotEnded => 15,
-        }
+        self as u8
     }
 
     // Only the endings 1 to 12 have a message.
@@ -51,7 +39,7 @@ impl Ending {
         ensures its_words { result.now ≡ message_of self }
     {
         match self {
-            Ending::Finished => b"",
+            Ending::Finished | Ending::Dropped | Ending::Stuck | Ending::NotEnded => b"",
             Ending::NoSuchMethod => b"halt: No such method",
             Ending::NoSuchClass => b"halt: No such class",
             Ending::CannotInstantiateBot => b"halt: Cannot instantiate Bot",
@@ -64,9 +52,6 @@ impl Ending {
             Ending::NoTextSpace => b"halt: No space for text",
             Ending::NoFrameSpace => b"halt: No space for frames",
             Ending::NoOutputSpace => b"halt: No space for output",
-            Ending::Dropped => b"",
-            Ending::Stuck => b"",
-            Ending::NotEnded => b"",
         }
     }
 
@@ -80,7 +65,52 @@ impl Ending {
         if out.len() < n {
             return None;
         }
-        out[0..n].copy_from_slice(text);
+        out[..n].copy_from_slice(text);
         Some(n)
+    }
+}
+
+// No program can ask for an ending by this number.
+#[derive(Clone, Copy, Debug, PartialEq, Eq)]
+pub struct NotAsked;
+
+// The endings that a program can ask for, by their numbers.
+impl TryFrom<i32> for Ending {
+    type Error = NotAsked;
+
+    ghost try_from_gives = { Asked };
+
+    fn try_from(number: i32) -> Result<Ending, NotAsked> {
+        match number {
+            1 => Ok(Ending::NoSuchMethod),
+            2 => Ok(Ending::NoSuchClass),
+            3 => Ok(Ending::CannotInstantiateBot),
+            4 => Ok(Ending::UnboundLocal),
+            5 => Ok(Ending::WrongArgumentCount),
+            6 => Ok(Ending::WrongArgumentKind),
+            7 => Ok(Ending::NoSuchKey),
+            8 => Ok(Ending::DivisionByZero),
+            _ => Err(NotAsked),
+        }
+    }
+}
+
+// How a run ends at a store's refusal.
+impl From<NoTable> for Ending {
+    ghost from_gives = { λ _ e. e ≡ Stuck };
+
+    fn from(_refusal: NoTable) -> Ending {
+        Ending::from(Refusal::NoTable)
+    }
+}
+
+impl From<Refusal> for Ending {
+    ghost from_gives = { λ refusal e. e ≡ ended_by refusal };
+
+    fn from(refusal: Refusal) -> Ending {
+        match refusal {
+            Refusal::NoTable => Ending::Stuck,
+            Refusal::Full => Ending::NoTableSpace,
+        }
     }
 }

@@ -2,7 +2,7 @@
 use store::value::{Identifier, Value};
 
 // The kinds of values that a program can ask for.
-#[derive(Clone, Copy)]
+#[derive(Clone, Copy, Debug, PartialEq, Eq)]
 pub enum Kind {
     Integer,
     Text,
@@ -10,11 +10,11 @@ pub enum Kind {
 }
 
 // A register of the running frame; never a place in the code or a table.
-#[derive(Clone, Copy)]
+#[derive(Clone, Copy, Debug, PartialEq, Eq)]
 pub struct Register(pub u8);
 
 // How far a jump goes from the instruction behind it.
-#[derive(Clone, Copy)]
+#[derive(Clone, Copy, Debug, PartialEq, Eq)]
 pub struct Offset(pub i32);
 
 #[derive(Clone, Copy)]

@@ -8,7 +8,7 @@ ghost use Rattle.machine.specs.Outcome.{need};
 ghost use Rattle.machine.specs.Operands.{value_at, integer_at, function_at, table_at, truth, is_of, arith_at, ordered_at, same_at, kind_at};
 ghost use Rattle.operands.specs.Slots.{registers_of, answered, numbered, Located, slot_end, Within, EndsBy};
 
-use machine::arith::{Op, Order, compute, in_order};
+use machine::arith::{Op, Order};
 use machine::ending::Ending;
 use machine::instruction::{Kind, Register};
 use store::value::{Identifier, Location, Value, same};
@@ -89,7 +89,7 @@ pub(crate) fn arith(
 {
     let x = integer(registers, b)?;
     let y = integer(registers, c)?;
-    let z = compute(op, x, y)?;
+    let z = op.compute(x, y)?;
     Ok(Value::Int(z))
 }
 
@@ -104,7 +104,7 @@ pub(crate) fn ordered(
 {
     let x = integer(registers, b)?;
     let y = integer(registers, c)?;
-    Ok(truth(in_order(order, x, y)))
+    Ok(truth(order.holds(x, y)))
 }
 
 pub(crate) fn equal(

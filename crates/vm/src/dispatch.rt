@@ -36,14 +36,7 @@ fn halted(v: Value) -> Ending
     ensures { (m : Memory) → result ≡ halted (meaning m v) }
 {
     match v {
-        Value::Int(1) => Ending::NoSuchMethod,
-        Value::Int(2) => Ending::NoSuchClass,
-        Value::Int(3) => Ending::CannotInstantiateBot,
-        Value::Int(4) => Ending::UnboundLocal,
-        Value::Int(5) => Ending::WrongArgumentCount,
-        Value::Int(6) => Ending::WrongArgumentKind,
-        Value::Int(7) => Ending::NoSuchKey,
-        Value::Int(8) => Ending::DivisionByZero,
+        Value::Int(n) => Ending::try_from(n).unwrap_or(Ending::Stuck),
         _ => Ending::Stuck,
     }
 }

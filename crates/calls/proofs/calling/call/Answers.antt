@@ -29,8 +29,8 @@ returns-in_err-name c =
       shown = room.shown;
     })
 
-pub returns-in-Some : goal.returns-in-Some
-returns-in-Some c =
+pub returns-in-Ok : goal.returns-in-Ok
+returns-in-Ok c =
     let a = c.args in
     let xs = a.registers.now in
     let w = a.calls.now.waiting in
@@ -40,14 +40,14 @@ returns-in-Some c =
     record {
       called = λ T G live.
           called-as b T G _ _ c.answer.result _
-          (call-answers a.a.0 a.first.0 a.last.0 T G b g f c.in-Some.builtin c.in-Some.ensures.whose_number_it_is)
+          (call-answers a.a.0 a.first.0 a.last.0 T G b g f c.in-Ok.builtin c.in-Ok.ensures)
           (c.answer.ensures.called g T G live);
       few = c.answer.ensures.few;
       shown = c.answer.ensures.shown;
     }
 
-pub returns-in-None : goal.returns-in-None
-returns-in-None c =
+pub returns-in-Err : goal.returns-in-Err
+returns-in-Err c =
     let a = c.args in
     let xs = a.registers.now in
     let w = a.calls.now.waiting in
@@ -58,7 +58,7 @@ returns-in-None c =
     record {
       called = λ T G live.
           called-as b T G _ _ c.enter.result _
-          (call_enters a.a.0 a.first.0 a.last.0 T G b g f c.in-None.ensures.whose_number_it_is)
+          (call_enters a.a.0 a.first.0 a.last.0 T G b g f c.in-Err.ensures)
           (entered-called b T G _ c.enter.result _ _ _ (n.entered b.memory (world_in T G b)) (n.within a.spent.now.bytes live));
       few = n.few;
       shown = c.requires.roomy.shown;
