@@ -3,8 +3,7 @@ use Rattle.std.proofs.Common.{refl}
 use Rattle.std.specs.Int.{int_wrap}
 use Rattle.std.specs.Fmt.{digits}
 use Rattle.text.specs.Memory.{equal_bytes}
-use Rattle.lexer.specs.Keyword.{keyword_of, keywords, among}
-use Rattle.lexer.specs.Lexing.{front}
+use Rattle.lexer.specs.Keyword.{keyword_of}
 use Rattle.lexer.specs.Tokens.{scan}
 use Rattle.grammar.specs.Machine.{run}
 use Rattle.store.specs.Val.{equal_val}
@@ -29,13 +28,13 @@ use Rattle.compiler.specs.Whole.{main_code}
 use Rattle.compiler.specs.Samples.{RunsHold, MeaningsHold, MoreRunsHold}
 
 pub runs-hold : RunsHold
-unfolding int_wrap digits equal_bytes keyword_of keywords among front scan run equal_val look put arith charge print visible heap_pairs fits perform eval evals eval_at meaning fetch write passed values_from apply exec step machine.run pairs send compile compiles method_code operation_code main_code
+unfolding int_wrap digits equal_bytes keyword_of scan run equal_val look put arith charge print visible heap_pairs fits perform eval evals eval_at meaning fetch write passed values_from apply exec step machine.run pairs send compile compiles method_code operation_code main_code
 runs-hold = (refl, (refl, (refl, (refl, (refl, (refl, (refl, (refl, (refl, (refl, (refl, (refl, tt))))))))))))
 
 pub meanings-hold : MeaningsHold
-unfolding int_wrap digits equal_bytes keyword_of keywords among front scan run equal_val look put arith charge print visible heap_pairs fits perform eval evals eval_at meaning fetch write passed values_from apply exec step machine.run pairs send compile compiles method_code operation_code main_code
+unfolding int_wrap digits equal_bytes keyword_of scan run equal_val look put arith charge print visible heap_pairs fits perform eval evals eval_at meaning fetch write passed values_from apply exec step machine.run pairs send compile compiles method_code operation_code main_code
 meanings-hold = (refl, (refl, (refl, (refl, (refl, (refl, (refl, (refl, (refl, (refl, (refl, (refl, (refl, (refl, (refl, (refl, (refl, (refl, (refl, (refl, (refl, (refl, (refl, (refl, (refl, (refl, (refl, (refl, (refl, (refl, (refl, (refl, (refl, (refl, (refl, (refl, tt))))))))))))))))))))))))))))))))))))
 
 pub more-runs-hold : MoreRunsHold
-unfolding int_wrap digits equal_bytes keyword_of keywords among front scan run equal_val look put arith charge print visible heap_pairs fits perform eval evals eval_at meaning fetch write passed values_from apply exec step machine.run pairs send compile compiles method_code operation_code main_code
+unfolding int_wrap digits equal_bytes keyword_of scan run equal_val look put arith charge print visible heap_pairs fits perform eval evals eval_at meaning fetch write passed values_from apply exec step machine.run pairs send compile compiles method_code operation_code main_code
 more-runs-hold = (refl, (refl, (refl, (refl, (refl, (refl, (refl, (refl, (refl, (refl, (refl, (refl, (refl, (refl, (refl, (refl, (refl, (refl, (refl, (refl, (refl, (refl, (refl, (refl, (refl, (refl, (refl, (refl, (refl, (refl, (refl, (refl, (refl, (refl, (refl, (refl, tt))))))))))))))))))))))))))))))))))))

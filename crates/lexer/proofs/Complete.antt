@@ -10,7 +10,7 @@ use Rattle.lexer.specs.declared.token.Keyword.TheVariants.{Class, Begin, End, De
 use Rattle.lexer.specs.declared.byte.ByteKind.TheVariants.{Identifying, Minus}
 use Rattle.lexer.specs.declared.byte.Run.TheVariants.{Quoted}
 use Rattle.lexer.specs.Byte.{between, digit, identifying, goes_on}
-use Rattle.lexer.specs.Keyword.{word, keywords, among, keyword_of}
+use Rattle.lexer.specs.Keyword.{word, keyword_of}
 use Rattle.lexer.specs.Token.{Terminal, identifier, integer, field, string, keyword, symbol, spelling, sign}
 use Rattle.lexer.specs.Lexing.{worded, named, word_of, integer_of, begun, first}
 use Rattle.lexer.specs.Law.{Word, Free, Formed, goes_with, Stops, Begins}
@@ -38,7 +38,7 @@ keyword-small SelfWord = refl
 keyword-small Nil = refl
 
 pub keyword-found : (k : Keyword) → keyword_of (word k) ≡ Some k
-unfolding keyword_of keywords among
+unfolding keyword_of
 keyword-found Class = refl
 keyword-found Begin = refl
 keyword-found End = refl
@@ -68,7 +68,7 @@ small-not-lone [] e = refl
 small-not-lone (c ∷ w) e = and_left (eqb c 45) (bytes_eq w []) (small-no-minus c (and_parts _ _ e).0)
 
 keyword-long : (k : Keyword) → 0 < length (word k)
-unfolding keyword_of keywords among
+unfolding keyword_of
 keyword-long k = by (word k) (keyword-found k) where
   by : (w : List ℕ) → keyword_of w ≡ Some k → 0 < length w
   by [] e = let z : ◌≡◌ {A = ℕ} 0 1 = cc in absurd (omega arith)

@@ -3,12 +3,13 @@ use Rattle.std.proofs.Common.{◌≡◌, ℕ, suc, ◌≤◌, Bool, true, false,
 use Rattle.std.specs.List.{AllByRecursion}
 use Rattle.std.proofs.lemmas.List.{append_assoc}
 use Rattle.std.proofs.lemmas.Bool.{eqb-true, false≢true}
+use Rattle.std.specs.List.{take_while}
 use Rattle.lexer.specs.declared.token.Keyword.{Keyword}
 use Rattle.lexer.specs.declared.byte.ByteKind.TheVariants.{Identifying, Minus}
 use Rattle.lexer.specs.Byte.{digit, identifying}
 use Rattle.lexer.specs.Keyword.{word, keyword_of}
 use Rattle.lexer.specs.Token.{Terminal, identifier, integer, field, string, keyword, symbol, spelling, sign}
-use Rattle.lexer.specs.Lexing.{front, named, word_of, integer_of, begun, first}
+use Rattle.lexer.specs.Lexing.{named, word_of, integer_of, begun, first}
 use Rattle.lexer.specs.Law.{Word, Formed, Begins}
 use Rattle.lexer.proofs.ByteKinds.{identifying-no-digit, kind-of-identifying, kind-of-sign}
 use Rattle.lexer.proofs.Placing.{length-worded}
@@ -21,7 +22,7 @@ AtLeast n (Some t) = n ≤ length (spelling t)
 
 word-at-least : (b : ℕ) (w other : List ℕ) → AllByRecursion (λ c. identifying c ≡ true) w → suc (length w) ≤ length (spelling (word_of b (w ++ other)))
 word-at-least b w other a =
-    let n = length-worded (b ∷ front identifying (w ++ other)) in
+    let n = length-worded (b ∷ take_while identifying (w ++ other)) in
     let m = front-at-least identifying w other a in
     omega arith
 
@@ -65,7 +66,7 @@ covers (integer (b ∷ bs)) other t f e = integer-at-least b bs other t f.1 e (f
 covers (field []) other t f e = absurd f
 covers (field (b ∷ w)) other t f e =
     let at_sign : first (64 ∷ (w ++ other)) ≡ Some t = rw f.0 at e in
-    named-at-least (front identifying (w ++ other)) (keyword_of (front identifying (w ++ other))) t (length w) at_sign (front-at-least identifying w other f.1.0.1)
+    named-at-least (take_while identifying (w ++ other)) (keyword_of (take_while identifying (w ++ other))) t (length w) at_sign (front-at-least identifying w other f.1.0.1)
 covers (string w) other t f e =
     same-token (first (34 ∷ (w ++ 34 ∷ other))) (string w) t (ap (λ x. first (34 ∷ x)) (sym (append_assoc w (34 ∷ []) other)) ∙ e) (first-string w other f)
 covers (keyword k) other t f e = at_least (length (word k)) (first (word k ++ other)) t e (first-at-least (word k) other (keyword-word k))

@@ -2,9 +2,10 @@
 use Rattle.std.proofs.Common.{◌≡◌, ℕ, ◌+◌, ◌<◌, ◌≤◌, Bool, true, false, List, [], ◌∷◌, ◌++◌, length, drop, Some, None, Option, sym, refl, ap, ◌∙◌, subst, ⊎_elim, add-zero, arith}
 use Rattle.std.proofs.lemmas.List.{drop-drop, drop_all, drop_at, length-drop, length-append}
 use Rattle.std.proofs.lemmas.Bool.{cases_lt, cond-true, cond-false}
+use Rattle.std.specs.List.{take_while}
 use Rattle.lexer.specs.Byte.{blank}
 use Rattle.lexer.specs.Token.{Terminal, spelling}
-use Rattle.lexer.specs.Lexing.{front, first, placed, next, Next}
+use Rattle.lexer.specs.Lexing.{first, placed, next, Next}
 use Rattle.lexer.specs.Tokens.{Placed, Tokens, all, stray, before, took, scan, judged}
 use Rattle.lexer.specs.Law.{Stops, Begins, Reads, here, gap, item, Stuck, stuck, Stands, Inside}
 use Rattle.lexer.proofs.Front.{front-passes, front-stops}
@@ -35,36 +36,35 @@ pub record Known (text : List ℕ) (at : ℕ) (x : Next) : Type 0 where
   pub stands : Stands text at x
 
 blanks-by : (b : ℕ) (bs : List ℕ) (at : ℕ) (x : Bool) → blank b ≡ x
-    → scan (at + 1) 0 bs ≡ scan (at + 1 + length (front blank bs)) 0 (left blank bs)
-    → scan at 0 (b ∷ bs) ≡ scan (at + length (front blank (b ∷ bs))) 0 (left blank (b ∷ bs))
+    → scan (at + 1) 0 bs ≡ scan (at + 1 + length (take_while blank bs)) 0 (left blank bs)
+    → scan at 0 (b ∷ bs) ≡ scan (at + length (take_while blank (b ∷ bs))) 0 (left blank (b ∷ bs))
 unfolding scan
 blanks-by b bs at true e again =
-    let k : at + 1 + length (front blank bs) ≡ at + length (b ∷ front blank bs) = omega arith in
+    let k : at + 1 + length (take_while blank bs) ≡ at + length (b ∷ take_while blank bs) = omega arith in
     cond-true (blank b) _ _ e ∙ again ∙ ap (λ a. scan a 0 (left blank bs)) k
     ∙ sym (ap (λ l. scan (at + length l) 0 (drop (length l) (b ∷ bs))) (front-passes blank b bs e))
 blanks-by b bs at false e again =
     ap (λ a. scan a 0 (b ∷ bs)) (sym (add-zero at)) ∙ sym (ap (λ l. scan (at + length l) 0 (drop (length l) (b ∷ bs))) (front-stops blank b bs e))
 
 -- blanks are passed over
-scan-blanks : (bs : List ℕ) (at : ℕ) → scan at 0 bs ≡ scan (at + length (front blank bs)) 0 (left blank bs)
-unfolding scan front
+scan-blanks : (bs : List ℕ) (at : ℕ) → scan at 0 bs ≡ scan (at + length (take_while blank bs)) 0 (left blank bs)
+unfolding scan
 scan-blanks [] at = refl
 scan-blanks (b ∷ bs) at = blanks-by b bs at (blank b) refl (scan-blanks bs (at + 1))
 
 reads-blanks-by : (b : ℕ) (bs : List ℕ) (at : ℕ) (ps : List Placed) (rest : List ℕ) (x : Bool) → blank b ≡ x
-    → (Reads (at + 1 + length (front blank bs)) (left blank bs) ps rest → Reads (at + 1) bs ps rest)
-    → Reads (at + length (front blank (b ∷ bs))) (left blank (b ∷ bs)) ps rest → Reads at (b ∷ bs) ps rest
+    → (Reads (at + 1 + length (take_while blank bs)) (left blank bs) ps rest → Reads (at + 1) bs ps rest)
+    → Reads (at + length (take_while blank (b ∷ bs))) (left blank (b ∷ bs)) ps rest → Reads at (b ∷ bs) ps rest
 reads-blanks-by b bs at ps rest true e again r =
-    let k : at + length (b ∷ front blank bs) ≡ at + 1 + length (front blank bs) = omega arith in
-    let r' : Reads (at + length (b ∷ front blank bs)) (left blank bs) ps rest = rw (front-passes blank b bs e) at r in
+    let k : at + length (b ∷ take_while blank bs) ≡ at + 1 + length (take_while blank bs) = omega arith in
+    let r' : Reads (at + length (b ∷ take_while blank bs)) (left blank bs) ps rest = rw (front-passes blank b bs e) at r in
     gap e (again (subst (λ a. Reads a (left blank bs) ps rest) k r'))
 reads-blanks-by b bs at ps rest false e again r =
     let r' : Reads (at + 0) (b ∷ bs) ps rest = rw (front-stops blank b bs e) at r in
     subst (λ a. Reads a (b ∷ bs) ps rest) (add-zero at) r'
 
 -- what is read behind blanks is read with them
-reads-blanks : (bs : List ℕ) (at : ℕ) (ps : List Placed) (rest : List ℕ) → Reads (at + length (front blank bs)) (left blank bs) ps rest → Reads at bs ps rest
-unfolding front
+reads-blanks : (bs : List ℕ) (at : ℕ) (ps : List Placed) (rest : List ℕ) → Reads (at + length (take_while blank bs)) (left blank bs) ps rest → Reads at bs ps rest
 reads-blanks [] at ps rest r = subst (λ a. Reads a [] ps rest) (add-zero at) r
 reads-blanks (b ∷ bs) at ps rest r = reads-blanks-by b bs at ps rest (blank b) refl (reads-blanks bs (at + 1) ps rest) r
 
@@ -129,11 +129,11 @@ module _ (text : List ℕ) (at from : ℕ) (past : at ≤ from) (inside : from <
 
 module _ (text : List ℕ) (at : ℕ) where
   from : ℕ
-  from = at + length (front blank (drop at text))
+  from = at + length (take_while blank (drop at text))
 
   left_is : left blank (drop at text) ≡ drop from text
   unfolding from
-  left_is = drop-drop (length (front blank (drop at text))) at text
+  left_is = drop-drop (length (take_while blank (drop at text))) at text
 
   same-scan : scan at 0 (drop at text) ≡ scan from 0 (drop from text)
   unfolding from

@@ -2,17 +2,17 @@
 use Rattle.std.proofs.Common.{◌≡◌, ℕ, ◌≤◌, Bool, true, false, ◌||◌, List, [], ◌∷◌, ◌++◌, length, drop, sym, refl, ap, ◌∙◌, arith}
 use Rattle.std.specs.List.{AllByRecursion}
 use Rattle.std.proofs.lemmas.Bool.{or_from, or_parts}
-use Rattle.lexer.specs.Lexing.{front}
+use Rattle.std.specs.List.{take_while}
 use Rattle.lexer.specs.Law.{Stops}
 use Rattle.lexer.proofs.Front.{front-passes, front-stops, front-none}
 
 -- what is left behind the longest front
 abbrev pub left : (ℕ → Bool) → List ℕ → List ℕ
-left f bs = drop (length (front f bs)) bs
+left f bs = drop (length (take_while f bs)) bs
 
 pub record Split (f : ℕ → Bool) (bs : List ℕ) : Type 0 where
-  pub whole : bs ≡ front f bs ++ left f bs
-  pub passing : AllByRecursion (λ b. f b ≡ true) (front f bs)
+  pub whole : bs ≡ take_while f bs ++ left f bs
+  pub passing : AllByRecursion (λ b. f b ≡ true) (take_while f bs)
   pub stopping : Stops f (left f bs)
 
 split_by : (f : ℕ → Bool) (b : ℕ) (bs : List ℕ) (t : Bool) → f b ≡ t → Split f bs → Split f (b ∷ bs)
@@ -32,20 +32,19 @@ split_by f b bs false e s =
     }
 
 pub split : (f : ℕ → Bool) (bs : List ℕ) → Split f bs
-unfolding front
 split f [] = record { whole = refl; passing = tt; stopping = tt }
 split f (b ∷ bs) = split_by f b bs (f b) refl (split f bs)
 
-front-at-stop : (f : ℕ → Bool) (bs : List ℕ) → Stops f bs → front f bs ≡ []
+front-at-stop : (f : ℕ → Bool) (bs : List ℕ) → Stops f bs → take_while f bs ≡ []
 front-at-stop f [] s = front-none f
 front-at-stop f (b ∷ bs) s = front-stops f b bs s
 
 -- bytes that pass, up to one that does not, are the longest front
-pub front-is : (f : ℕ → Bool) (w more : List ℕ) → AllByRecursion (λ b. f b ≡ true) w → Stops f more → front f (w ++ more) ≡ w
+pub front-is : (f : ℕ → Bool) (w more : List ℕ) → AllByRecursion (λ b. f b ≡ true) w → Stops f more → take_while f (w ++ more) ≡ w
 front-is f [] more a s = front-at-stop f more s
 front-is f (b ∷ w) more a s = front-passes f b (w ++ more) a.0 ∙ ap (λ l. b ∷ l) (front-is f w more a.1 s)
 
-pub front-at-least : (f : ℕ → Bool) (w more : List ℕ) → AllByRecursion (λ b. f b ≡ true) w → length w ≤ length (front f (w ++ more))
+pub front-at-least : (f : ℕ → Bool) (w more : List ℕ) → AllByRecursion (λ b. f b ≡ true) w → length w ≤ length (take_while f (w ++ more))
 front-at-least f [] more a = omega arith
 front-at-least f (b ∷ w) more a =
     let h = front-at-least f w more a.1 in

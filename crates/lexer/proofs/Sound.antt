@@ -3,6 +3,7 @@ use Rattle.std.proofs.Common.{◌≡◌, ℕ, ◌<◌, Bool, true, false, cond, 
 use Rattle.std.specs.Str.{bytes_eq}
 use Rattle.std.proofs.lemmas.List.{append_assoc, length-append}
 use Rattle.std.proofs.lemmas.Bool.{and_left, ltb-true, eqb-true, not-false}
+use Rattle.std.specs.List.{take_while}
 use Rattle.lexer.specs.declared.token.Keyword.{Keyword}
 use Rattle.lexer.specs.declared.byte.ByteKind.{ByteKind}
 use Rattle.lexer.specs.declared.byte.ByteKind.TheVariants.{Blank, Identifying, Minus, Digit, At, Quote, Sign, Stray}
@@ -10,9 +11,9 @@ use Rattle.lexer.specs.declared.byte.Run.TheVariants.{Quoted}
 use Rattle.lexer.specs.Byte.{digit, identifying, goes_on, kind_of}
 use Rattle.lexer.specs.Keyword.{keyword_of}
 use Rattle.lexer.specs.Token.{Terminal, field, string, symbol}
-use Rattle.lexer.specs.Lexing.{front, worded, named, word_of, integer_of, minus_of, begun, first}
+use Rattle.lexer.specs.Lexing.{worded, named, word_of, integer_of, minus_of, begun, first}
 use Rattle.lexer.specs.Law.{Stops, Begins}
-use Rattle.lexer.proofs.Front.{front-passes, front-stops, front-none}
+use Rattle.lexer.proofs.Front.{front-passes, front-stops}
 use Rattle.lexer.proofs.Keywords.{keyword-spells}
 use Rattle.lexer.proofs.ByteKinds.{Tells, kind-tells}
 use Rattle.lexer.proofs.Runs.{left, split, stops-never, stops-both}
@@ -26,7 +27,7 @@ lone w d = bytes_eq w (45 ∷ []) && digit d
 
 module _ (b : ℕ) (bs : List ℕ) where
   abbrev run : List ℕ
-  run = b ∷ front identifying bs
+  run = b ∷ take_while identifying bs
 
   begins-word : identifying b ≡ true → Stops (lone run) (left identifying bs) → (o : Option Keyword) → keyword_of run ≡ o → Begins (b ∷ bs) (worded run o) (left identifying bs)
   begins-word i l None e =
@@ -47,7 +48,7 @@ module _ (b : ℕ) (bs : List ℕ) where
   pub found_word : identifying b ≡ true → Stops (lone run) (left identifying bs) → Found (b ∷ bs) (word_of b bs)
   found_word i l = (left identifying bs, begins-word i l (keyword_of run) refl)
 
-  pub found-integer : ((digit b ≡ true) ⊎ ((b ≡ 45) × (0 < length (front digit bs)))) → Found (b ∷ bs) (integer_of b bs)
+  pub found-integer : ((digit b ≡ true) ⊎ ((b ≡ 45) × (0 < length (take_while digit bs)))) → Found (b ∷ bs) (integer_of b bs)
   found-integer d =
       let s = split digit bs in
       (left digit bs, record { formed = (d, s.passing); written = ap (λ x. b ∷ x) s.whole; parted = s.stopping })
@@ -55,7 +56,7 @@ module _ (b : ℕ) (bs : List ℕ) where
 -- a byte that is no `-` is no lone `-`
 not-lone : (b : ℕ) (bs : List ℕ) → eqb b 45 ≡ false → Stops (lone (run b bs)) (left identifying bs)
 not-lone b bs e =
-    stops-never (lone (run b bs)) (left identifying bs) (λ d. and_left (bytes_eq (run b bs) (45 ∷ [])) (digit d) (and_left (eqb b 45) (bytes_eq (front identifying bs) []) e))
+    stops-never (lone (run b bs)) (left identifying bs) (λ d. and_left (bytes_eq (run b bs) (45 ∷ [])) (digit d) (and_left (eqb b 45) (bytes_eq (take_while identifying bs) []) e))
 
 -- a `-` before no digit
 minus-word-by : (c : ℕ) (cs : List ℕ) (t : Bool) → identifying c ≡ t → digit c ≡ false → Stops (lone (run 45 (c ∷ cs))) (left identifying (c ∷ cs))
@@ -66,10 +67,10 @@ minus-word-by c cs false e d =
     rw (front-stops identifying c cs e) d
 
 minus-word : (bs : List ℕ) → digit (get_or bs 0 0) ≡ false → Stops (lone (run 45 bs)) (left identifying bs)
-minus-word [] d = rw (front-none identifying) tt
+minus-word [] d = tt
 minus-word (c ∷ cs) d = minus-word-by c cs (identifying c) refl d
 
-minus-digits : (bs : List ℕ) → digit (get_or bs 0 0) ≡ true → 0 < length (front digit bs)
+minus-digits : (bs : List ℕ) → digit (get_or bs 0 0) ≡ true → 0 < length (take_while digit bs)
 minus-digits [] d = let z : ◌≡◌ {A = ℕ} 0 1 = cc in absurd (omega arith)
 minus-digits (c ∷ cs) d = rw (front-passes digit c cs d) (omega arith)
 
@@ -78,7 +79,7 @@ found-minus b bs e true d = found-integer b bs (inr (e, minus-digits bs d))
 found-minus b bs e false d =
     found_word b bs (ap identifying e) (rw e (minus-word bs d))
 
-found-field : (b : ℕ) (bs w : List ℕ) → b ≡ 64 → front identifying bs ≡ w → (o : Option Keyword) → keyword_of w ≡ o → (t : Terminal) → named w o ≡ Some t → Found (b ∷ bs) t
+found-field : (b : ℕ) (bs w : List ℕ) → b ≡ 64 → take_while identifying bs ≡ w → (o : Option Keyword) → keyword_of w ≡ o → (t : Terminal) → named w o ≡ Some t → Found (b ∷ bs) t
 found-field b bs [] e f o k t n = let z : ◌≡◌ {A = ℕ} 0 1 = cc in absurd (omega arith)
 found-field b bs (c ∷ w) e f None k t n =
     let s = split identifying bs in
@@ -97,11 +98,11 @@ closing : (w : List ℕ) (bs rest : List ℕ) → bs ≡ w ++ rest → length w 
 closing w bs [] e h s = absurd (omega (arith, ap length e, length-append w []))
 closing w bs (c ∷ cs) e h s = (cs, e ∙ ap (λ x. w ++ x ∷ cs) (eqb-true c 34 (not-false (eqb c 34) s)))
 
-found-string : (b : ℕ) (bs : List ℕ) → b ≡ 34 → (x : Bool) → ltb (length (front (goes_on Quoted) bs)) (length bs) ≡ x → (t : Terminal)
-    → cond x (Some (string (front (goes_on Quoted) bs))) None ≡ Some t → Found (b ∷ bs) t
+found-string : (b : ℕ) (bs : List ℕ) → b ≡ 34 → (x : Bool) → ltb (length (take_while (goes_on Quoted) bs)) (length bs) ≡ x → (t : Terminal)
+    → cond x (Some (string (take_while (goes_on Quoted) bs))) None ≡ Some t → Found (b ∷ bs) t
 found-string b bs e true l t n =
     let s = split (goes_on Quoted) bs in
-    let w = front (goes_on Quoted) bs in
+    let w = take_while (goes_on Quoted) bs in
     let c = closing w bs (left (goes_on Quoted) bs) s.whole (ltb-true _ _ l) s.stopping in
     let t-is : string w ≡ t = cc in
     let begins : Begins (b ∷ bs) (string w) c.0 =
@@ -118,8 +119,8 @@ found-kind b bs Blank h t n = let z : ◌≡◌ {A = ℕ} 0 1 = cc in absurd (om
 found-kind b bs Identifying h t n = let t-is : word_of b bs ≡ t = cc in rw t-is at (found_word b bs h.0 (not-lone b bs h.1))
 found-kind b bs Minus h t n = let t-is : minus_of b bs ≡ t = cc in rw t-is at (found-minus b bs h (digit (get_or bs 0 0)) refl)
 found-kind b bs Digit h t n = let t-is : integer_of b bs ≡ t = cc in rw t-is at (found-integer b bs (inl h))
-found-kind b bs At h t n = found-field b bs (front identifying bs) h refl (keyword_of (front identifying bs)) refl t n
-found-kind b bs Quote h t n = found-string b bs h (ltb (length (front (goes_on Quoted) bs)) (length bs)) refl t n
+found-kind b bs At h t n = found-field b bs (take_while identifying bs) h refl (keyword_of (take_while identifying bs)) refl t n
+found-kind b bs Quote h t n = found-string b bs h (ltb (length (take_while (goes_on Quoted) bs)) (length bs)) refl t n
 found-kind b bs (Sign s) h t n =
     let t-is : symbol s ≡ t = cc in
     let begins : Begins (b ∷ bs) (symbol s) bs = record { formed = tt; written = ap (λ x. x ∷ bs) h; parted = stops-never (λ _. false) bs (λ _. refl) } in

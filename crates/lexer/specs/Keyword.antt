@@ -1,5 +1,6 @@
 -- The words that are no identifiers. Assumes nothing.
-use Rattle.std.specs.Prelude.{ℕ, cond, List, [], ◌∷◌, Some, None, codes, Option}
+use Rattle.std.specs.Prelude.{ℕ, List, codes, Option, find}
+use Rattle.lexer.specs.declared.token.TheConstants.Keyword.{ALL}
 use Rattle.std.specs.Str.{bytes_eq}
 use Rattle.lexer.specs.declared.token.Keyword.{Keyword}
 use Rattle.lexer.specs.declared.token.Keyword.TheVariants.{Class, Begin, End, Def, If, Then, Else, While, Do, New, InstanceOf, SelfWord, Nil}
@@ -19,14 +20,6 @@ word InstanceOf = codes "instanceof"
 word SelfWord = codes "self"
 word Nil = codes "nil"
 
-unfoldable pub keywords : List Keyword
-keywords =
-    Class ∷ Begin ∷ End ∷ Def ∷ If ∷ Then ∷ Else ∷ While ∷ Do ∷ New ∷ InstanceOf ∷ SelfWord ∷ Nil ∷ []
-
 -- the first of the keywords that is written so
-unfoldable pub among : List Keyword → List ℕ → Option Keyword
-among [] w = None
-among (k ∷ ks) w = cond (bytes_eq w (word k)) (Some k) (among ks w)
-
 unfoldable pub keyword_of : List ℕ → Option Keyword
-keyword_of w = among keywords w
+keyword_of w = find (λ k. bytes_eq w (word k)) ALL

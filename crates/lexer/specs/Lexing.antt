@@ -1,5 +1,6 @@
 -- The tokens of a text, one after another. Assumes nothing.
-use Rattle.std.specs.Prelude.{ℕ, ◌+◌, Bool, cond, List, [], ◌∷◌, length, drop, Some, None, Ok, Err, Option, Result, nat_lt, slice_index}
+use Rattle.std.specs.Prelude.{ℕ, ◌+◌, cond, List, [], ◌∷◌, length, drop, Some, None, Ok, Err, Option, Result, nat_lt, slice_index}
+use Rattle.std.specs.List.{take_while}
 use Rattle.lexer.specs.declared.token.Keyword.{Keyword}
 use Rattle.lexer.specs.declared.token.Lexed.{Lexed}
 use Rattle.lexer.specs.declared.token.Stray.{Stray}
@@ -10,11 +11,6 @@ use Rattle.lexer.specs.Byte.{kind_of, goes_on, digit}
 use Rattle.lexer.specs.Keyword.{keyword_of}
 use Rattle.lexer.specs.Token.{Terminal, identifier, integer, field, string, keyword, symbol, spelling, terminal}
 
--- the longest front whose bytes all pass the test
-unfoldable pub front : (ℕ → Bool) → List ℕ → List ℕ
-front f [] = []
-front f (b ∷ bs) = cond (f b) (b ∷ front f bs) []
-
 -- an identifier, unless a keyword is written so
 abbrev pub worded : List ℕ → Option Keyword → Terminal
 worded w None = identifier w
@@ -22,11 +18,11 @@ worded w (Some k) = keyword k
 
 -- the identifier or keyword that begins with b, with bs behind it
 abbrev pub word_of : ℕ → List ℕ → Terminal
-word_of b bs = worded (b ∷ front (goes_on Identifier) bs) (keyword_of (b ∷ front (goes_on Identifier) bs))
+word_of b bs = worded (b ∷ take_while (goes_on Identifier) bs) (keyword_of (b ∷ take_while (goes_on Identifier) bs))
 
 -- the integer that begins with b, a digit or the `-` before one
 abbrev pub integer_of : ℕ → List ℕ → Terminal
-integer_of b bs = integer (b ∷ front (goes_on Digits) bs)
+integer_of b bs = integer (b ∷ take_while (goes_on Digits) bs)
 
 -- a `-` begins an integer before a digit, and else a word
 abbrev pub minus_of : ℕ → List ℕ → Terminal
@@ -40,11 +36,11 @@ named (b ∷ bs) (Some k) = None
 
 -- the field whose `@` has bs behind it
 abbrev pub field_of : List ℕ → Option Terminal
-field_of bs = named (front (goes_on Identifier) bs) (keyword_of (front (goes_on Identifier) bs))
+field_of bs = named (take_while (goes_on Identifier) bs) (keyword_of (take_while (goes_on Identifier) bs))
 
 -- the string whose first quote has bs behind it, if another quote closes it
 abbrev pub string_of : List ℕ → Option Terminal
-string_of bs = cond (nat_lt (length (front (goes_on Quoted) bs)) (length bs)) (Some (string (front (goes_on Quoted) bs))) None
+string_of bs = cond (nat_lt (length (take_while (goes_on Quoted) bs)) (length bs)) (Some (string (take_while (goes_on Quoted) bs))) None
 
 -- the token that a byte b of this kind begins, with bs behind it
 abbrev pub begun : ℕ → List ℕ → ByteKind → Option Terminal
@@ -78,7 +74,7 @@ starts text from = cond (nat_lt from (length text)) (placed from (first (drop fr
 
 -- what comes from `at` on, behind blanks
 unfoldable pub next : List ℕ → ℕ → Next
-next text at = starts text (at + length (front (goes_on Blanks) (drop at text)))
+next text at = starts text (at + length (take_while (goes_on Blanks) (drop at text)))
 
 -- what an answer of the code says
 abbrev pub lexed : Lexed → Next
@@ -95,3 +91,14 @@ answer (Err s) = Next.stray s.0
 abbrev pub begins : Result Lexed Stray → Next
 begins (Ok l) = lexed l
 begins (Err s) = Next.stray s.0
+
+-- what an answer of the iterator over tokens says
+abbrev pub told : Option (Result Lexed Stray) → Next
+told None = Next.end
+told (Some r) = begins r
+
+-- where the tokens go on behind an answer, in a text of n bytes
+abbrev pub behind : ℕ → Next → ℕ
+behind n (Next.token t from to) = to
+behind n Next.end = n
+behind n (Next.stray p) = n

@@ -52,12 +52,11 @@ pub fn kind_of(b: u8) -> ByteKind
 pub fn goes_on(run: Run, b: u8) -> bool
     ensures the_run { result ≡ goes_on run b }
 {
-    match (run, kind_of(b)) {
-        (Run::Blanks, ByteKind::Blank) => true,
-        (Run::Identifier, ByteKind::Identifying | ByteKind::Minus) => true,
-        (Run::Digits, ByteKind::Digit) => true,
-        (Run::Quoted, ByteKind::Quote) => false,
-        (Run::Quoted, _) => true,
-        _ => false,
+    let kind = kind_of(b);
+    match run {
+        Run::Blanks => matches!(kind, ByteKind::Blank),
+        Run::Identifier => matches!(kind, ByteKind::Identifying | ByteKind::Minus),
+        Run::Digits => matches!(kind, ByteKind::Digit),
+        Run::Quoted => !matches!(kind, ByteKind::Quote),
     }
 }

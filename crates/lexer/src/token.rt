@@ -21,6 +21,22 @@ pub enum Keyword {
 }
 
 impl Keyword {
+    pub const ALL: [Keyword; 13] = [
+        Keyword::Class,
+        Keyword::Begin,
+        Keyword::End,
+        Keyword::Def,
+        Keyword::If,
+        Keyword::Then,
+        Keyword::Else,
+        Keyword::While,
+        Keyword::Do,
+        Keyword::New,
+        Keyword::InstanceOf,
+        Keyword::SelfWord,
+        Keyword::Nil,
+    ];
+
     pub fn word(self) -> &'static [u8]
         ensures its_letters { result.now ≡ word self }
     {

@@ -3,8 +3,7 @@ use Rattle.std.proofs.Common.{refl}
 use Rattle.std.specs.Int.{int_wrap}
 use Rattle.std.specs.Fmt.{digits}
 use Rattle.text.specs.Memory.{equal_bytes}
-use Rattle.lexer.specs.Keyword.{keyword_of, keywords, among}
-use Rattle.lexer.specs.Lexing.{front}
+use Rattle.lexer.specs.Keyword.{keyword_of}
 use Rattle.lexer.specs.Tokens.{scan}
 use Rattle.grammar.specs.Machine.{run}
 use Rattle.store.specs.Val.{equal_val}
@@ -18,7 +17,7 @@ use Rattle.rube.specs.Meaning.{eval, evals, eval_at, meaning}
 use Rattle.rube.specs.Samples.{SamplesHold}
 
 pub samples-hold : SamplesHold
-unfolding int_wrap digits equal_bytes keyword_of keywords among front scan run equal_val look put arith charge print visible heap_pairs fits perform eval evals eval_at meaning
+unfolding int_wrap digits equal_bytes keyword_of scan run equal_val look put arith charge print visible heap_pairs fits perform eval evals eval_at meaning
 samples-hold =
     record {
       endings = (refl, (refl, (refl, (refl, (refl, (refl, (refl, (refl, (refl, (refl, (refl, (refl, tt))))))))))));
