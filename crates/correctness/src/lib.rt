@@ -14,7 +14,7 @@ pub fn step_bound(counted: u32, classes: u8, methods: u16) -> u64
     ensures the_bound { (P : Classes ℕ) → class_count P ≡ classes → pair_count P ≡ methods → result ≡ step_bound P counted }
     ensures rules_stand { Law (Unit {0}) × Law ℕ }
 {
-    128 * (counted as u64) + 128 * (classes as u64 + methods as u64 + 1)
+    128 * u64::from(counted) + 128 * (u64::from(classes) + u64::from(methods) + 1)
 }
 
 // The instructions that the code of a rule takes at most, with so many nodes in all trees.
@@ -22,12 +22,13 @@ pub fn code_bound(size: u32, classes: u8, methods: u16, added: u8) -> u64
     ensures the_bound { (P : Classes ℕ) (e : Expr ℕ) → class_nodes P + nodes e ≡ size → class_count P ≡ classes → pair_count P ≡ methods → added_methods P ≡ added → result ≡ code_bound P e }
     ensures code_fits { CodeLaw (Unit {0}) × CodeLaw ℕ }
 {
-    40 * (size as u64) + 8 * (classes as u64 + methods as u64) + 32 * (added as u64) + 1024
+    40 * u64::from(size)
+        + 8 * (u64::from(classes) + u64::from(methods))
+        + 32 * u64::from(added)
+        + 1024
 }
 
 // Every text that is read is spelled as the law asks.
-pub fn texts_are_spelled() -> u8
+pub fn texts_are_spelled()
     ensures { TextLaw }
-{
-    0
-}
+{}

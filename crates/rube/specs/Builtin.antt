@@ -1,5 +1,5 @@
 -- The methods that stand before any class is added: twenty-four pairs of class and method. Assumes nothing.
-use Rattle.std.specs.Prelude.{ℕ, List, [], ◌∷◌, codes}
+use Rattle.std.specs.Prelude.{ℕ, List, [], ◌∷◌, map, codes}
 use Rattle.machine.specs.declared.arith.Op.TheVariants.{Add, Sub, Mul, Div}
 use Rattle.rube.specs.declared.builtin.BuiltinClass.{BuiltinClass}
 use Rattle.rube.specs.declared.builtin.BuiltinClass.TheVariants.{Object, Str, Integer, Map, Bot}
@@ -53,34 +53,29 @@ table =
     ∷ row Bot 0 PrintNil
     ∷ []
 
+-- what a program calls an operation by
+abbrev pub name_of : Operation → List ℕ
+name_of Equal = codes "equal?"
+name_of ClassName = codes "to_s"
+name_of PrintClassName = codes "print"
+name_of Itself = codes "to_s"
+name_of Decimal = codes "to_s"
+name_of PrintValue = codes "print"
+name_of NilText = codes "to_s"
+name_of PrintNil = codes "print"
+name_of Concat = codes "+"
+name_of Length = codes "length"
+name_of (Arith Add) = codes "+"
+name_of (Arith Sub) = codes "-"
+name_of (Arith Mul) = codes "*"
+name_of (Arith Div) = codes "/"
+name_of Find = codes "find"
+name_of Insert = codes "insert"
+name_of Has = codes "has"
+
 -- the methods' names, row by row
 abbrev pub names : List (List ℕ)
-names =
-    codes "equal?"
-    ∷ codes "to_s"
-    ∷ codes "print"
-    ∷ codes "equal?"
-    ∷ codes "to_s"
-    ∷ codes "print"
-    ∷ codes "+"
-    ∷ codes "length"
-    ∷ codes "equal?"
-    ∷ codes "to_s"
-    ∷ codes "print"
-    ∷ codes "+"
-    ∷ codes "-"
-    ∷ codes "*"
-    ∷ codes "/"
-    ∷ codes "equal?"
-    ∷ codes "to_s"
-    ∷ codes "print"
-    ∷ codes "find"
-    ∷ codes "insert"
-    ∷ codes "has"
-    ∷ codes "equal?"
-    ∷ codes "to_s"
-    ∷ codes "print"
-    ∷ []
+names = map (λ b. name_of b.operation) table
 
 abbrev pub class_name : BuiltinClass → List ℕ
 class_name Object = codes "Object"

@@ -1,8 +1,7 @@
 // The methods that stand before any class is added.
-ghost use Rattle.std.specs.Prelude.{◌≡◌, ◌<◌, [], MatchOption, slice_index_or};
-ghost use Rattle.std.specs.Option.{option_map};
+ghost use Rattle.std.specs.Prelude.{◌≡◌, [], slice_index_or};
 ghost use Rattle.std.specs.List.{slice_get};
-ghost use Rattle.rube.specs.Builtin.{table, names};
+ghost use Rattle.rube.specs.Builtin.{name_of, table, names};
 
 use machine::arith::Op;
 
@@ -38,6 +37,29 @@ pub enum Operation {
     Has,
 }
 
+impl Operation {
+    // What a program calls it by.
+    pub fn name(self) -> &'static [u8]
+        ensures its_letters { result.now ≡ name_of self }
+    {
+        match self {
+            Operation::Equal => b"equal?",
+            Operation::ClassName | Operation::Itself | Operation::Decimal | Operation::NilText =>
+                b"to_s",
+            Operation::PrintClassName | Operation::PrintValue | Operation::PrintNil => b"print",
+            Operation::Concat => b"+",
+            Operation::Length => b"length",
+            Operation::Arith(Op::Add) => b"+",
+            Operation::Arith(Op::Sub) => b"-",
+            Operation::Arith(Op::Mul) => b"*",
+            Operation::Arith(Op::Div) => b"/",
+            Operation::Find => b"find",
+            Operation::Insert => b"insert",
+            Operation::Has => b"has",
+        }
+    }
+}
+
 #[derive(Clone, Copy)]
 pub struct Builtin {
     pub class: BuiltinClass,
@@ -45,145 +67,58 @@ pub struct Builtin {
     pub operation: Operation,
 }
 
-const TABLE: [Builtin; 24] = [
-    Builtin {
-        class: BuiltinClass::Object,
-        parameters: 1,
-        operation: Operation::Equal,
-    },
-    Builtin {
-        class: BuiltinClass::Object,
-        parameters: 0,
-        operation: Operation::ClassName,
-    },
-    Builtin {
-        class: BuiltinClass::Object,
-        parameters: 0,
-        operation: Operation::PrintClassName,
-    },
-    Builtin {
-        class: BuiltinClass::Str,
-        parameters: 1,
-        operation: Operation::Equal,
-    },
-    Builtin {
-        class: BuiltinClass::Str,
-        parameters: 0,
-        operation: Operation::Itself,
-    },
-    Builtin {
-        class: BuiltinClass::Str,
-        parameters: 0,
-        operation: Operation::PrintValue,
-    },
-    Builtin {
-        class: BuiltinClass::Str,
-        parameters: 1,
-        operation: Operation::Concat,
-    },
-    Builtin {
-        class: BuiltinClass::Str,
-        parameters: 0,
-        operation: Operation::Length,
-    },
-    Builtin {
-        class: BuiltinClass::Integer,
-        parameters: 1,
-        operation: Operation::Equal,
-    },
-    Builtin {
-        class: BuiltinClass::Integer,
-        parameters: 0,
-        operation: Operation::Decimal,
-    },
-    Builtin {
-        class: BuiltinClass::Integer,
-        parameters: 0,
-        operation: Operation::PrintValue,
-    },
-    Builtin {
-        class: BuiltinClass::Integer,
-        parameters: 1,
-        operation: Operation::Arith(Op::Add),
-    },
-    Builtin {
-        class: BuiltinClass::Integer,
-        parameters: 1,
-        operation: Operation::Arith(Op::Sub),
-    },
-    Builtin {
-        class: BuiltinClass::Integer,
-        parameters: 1,
-        operation: Operation::Arith(Op::Mul),
-    },
-    Builtin {
-        class: BuiltinClass::Integer,
-        parameters: 1,
-        operation: Operation::Arith(Op::Div),
-    },
-    Builtin {
-        class: BuiltinClass::Map,
-        parameters: 1,
-        operation: Operation::Equal,
-    },
-    Builtin {
-        class: BuiltinClass::Map,
-        parameters: 0,
-        operation: Operation::ClassName,
-    },
-    Builtin {
-        class: BuiltinClass::Map,
-        parameters: 0,
-        operation: Operation::PrintClassName,
-    },
-    Builtin {
-        class: BuiltinClass::Map,
-        parameters: 1,
-        operation: Operation::Find,
-    },
-    Builtin {
-        class: BuiltinClass::Map,
-        parameters: 2,
-        operation: Operation::Insert,
-    },
-    Builtin {
-        class: BuiltinClass::Map,
-        parameters: 1,
-        operation: Operation::Has,
-    },
-    Builtin {
-        class: BuiltinClass::Bot,
-        parameters: 1,
-        operation: Operation::Equal,
-    },
-    Builtin {
-        class: BuiltinClass::Bot,
-        parameters: 0,
-        operation: Operation::NilText,
-    },
-    Builtin {
-        class: BuiltinClass::Bot,
-        parameters: 0,
-        operation: Operation::PrintNil,
-    },
-];
+// A row of the table below.
+macro_rules! row {
+    ($class:ident, $parameters:literal, $operation:expr) => {
+        Builtin {
+            class: BuiltinClass::$class,
+            parameters: $parameters,
+            operation: $operation,
+        }
+    };
+}
 
-const NAMES: [&'static [u8]; 24] = [
-    b"equal?", b"to_s", b"print", b"equal?", b"to_s", b"print", b"+", b"length", b"equal?",
-    b"to_s", b"print", b"+", b"-", b"*", b"/", b"equal?", b"to_s", b"print", b"find", b"insert",
-    b"has", b"equal?", b"to_s", b"print",
+// The same rows are written out in `specs/`: there they are the language's, and an edit here is held against them.
+const TABLE: [Builtin; 24] = [
+    row!(Object, 1, Operation::Equal),
+    row!(Object, 0, Operation::ClassName),
+    row!(Object, 0, Operation::PrintClassName),
+    row!(Str, 1, Operation::Equal),
+    row!(Str, 0, Operation::Itself),
+    row!(Str, 0, Operation::PrintValue),
+    row!(Str, 1, Operation::Concat),
+    row!(Str, 0, Operation::Length),
+    row!(Integer, 1, Operation::Equal),
+    row!(Integer, 0, Operation::Decimal),
+    row!(Integer, 0, Operation::PrintValue),
+    row!(Integer, 1, Operation::Arith(Op::Add)),
+    row!(Integer, 1, Operation::Arith(Op::Sub)),
+    row!(Integer, 1, Operation::Arith(Op::Mul)),
+    row!(Integer, 1, Operation::Arith(Op::Div)),
+    row!(Map, 1, Operation::Equal),
+    row!(Map, 0, Operation::ClassName),
+    row!(Map, 0, Operation::PrintClassName),
+    row!(Map, 1, Operation::Find),
+    row!(Map, 2, Operation::Insert),
+    row!(Map, 1, Operation::Has),
+    row!(Bot, 1, Operation::Equal),
+    row!(Bot, 0, Operation::NilText),
+    row!(Bot, 0, Operation::PrintNil),
 ];
 
 // A row of the table.
 pub fn builtin_at(i: usize) -> Option<Builtin>
     ensures the_table { result ≡ slice_get table i }
 {
-    if i < 24 { Some(TABLE[i]) } else { None }
+    TABLE.get(i).copied()
 }
 
 // The method's name in a row; past the last it is empty.
 pub fn builtin_name(i: usize) -> &'static [u8]
     ensures the_table { result.now ≡ slice_index_or names i [] }
 {
-    if i < 24 { NAMES[i] } else { b"" }
+    match builtin_at(i) {
+        Some(row) => row.operation.name(),
+        None => b"",
+    }
 }
