@@ -1,5 +1,5 @@
 // The globals of a run, the oldest first.
-ghost use Rattle.std.specs.Prelude.{◌≡◌, ℕ, ◌<◌, ◌≤◌, [], length, IfSome, nat_eq};
+ghost use Rattle.std.specs.Prelude.{◌≡◌, ℕ, ◌≤◌, [], OnErr, nat_eq};
 ghost use Rattle.std.specs.List.{position};
 ghost use Rattle.text.specs.Memory.{Memory};
 ghost use Rattle.store.specs.Val.{Val, end_of};
@@ -79,6 +79,7 @@ impl Globals {
     // A global written before takes the new value; one more has to find room.
     pub fn write(&mut self, name: Identifier, value: Value) -> Result<(), NoRoom>
         ensures written { (m : Memory) → WritesGlobal m name.0 value result self.old self.new }
+        ensures kept_where_refused { OnErr result (self.new ≡ self.old) }
         ensures within { (u : ℕ) → GlobalsWithin u self.old → end_of value ≤ u → GlobalsWithin u self.new }
     {
         let global = Global { name, value };
