@@ -13,8 +13,8 @@ use effects::spent::Spent;
 use machine::builtin::{Builtin, NotBuiltin};
 use machine::ending::Ending;
 use machine::instruction::Register;
-use operands::registers::function;
-use store::value::Value;
+use operands::registers::operand;
+use store::value::{Identifier, Value};
 
 // What a function of the machine answers goes to the first register passed.
 fn answer(
@@ -73,7 +73,7 @@ pub fn call(
     ensures shown { spent.new.printed ≤ length out.new }
 {
     let base = REGISTERS * calls.waiting;
-    let name = function(&registers[base..base + REGISTERS], a)?;
+    let name: Identifier = operand(&registers[base..base + REGISTERS], a)?;
     match Builtin::try_from(name) {
         Ok(builtin) => answer(
             builtin, first, last, calls, callers, registers, fixed, texts, made, spent, out,

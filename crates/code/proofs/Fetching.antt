@@ -1,31 +1,28 @@
 -- What stands at a place of a function.
-use Rattle.std.proofs.Common.{◌≡◌, ℕ, ◌+◌, ◌<◌, ◌≤◌, min, List, [], map, length, get_or, take, drop, Some, None, sym, ap, ◌∙◌, subst, arith}
+use Rattle.std.proofs.Common.{◌≡◌, ℕ, ◌+◌, ◌<◌, ◌≤◌, min, List, [], map, length, get_or, take, drop, Some, None, sym, ap, ◌∙◌, arith}
 use Rattle.std.specs.List.{slice_get}
-use Rattle.std.proofs.lemmas.List.{get_or-map, get_or-take, get_or-drop, get_or_past, get_or_default, length-map, length-take, length-drop}
+use Rattle.std.proofs.lemmas.List.{get_or-map, get_or-take, get_or-drop, get_or_past, length-map, length-take, length-drop}
 use Rattle.std.proofs.lemmas.Option.{slice_get-get_or, slice_get_past}
 use Rattle.text.specs.Memory.{Memory}
 use Rattle.machine.specs.Instr.{fetch}
 use Rattle.code.specs.declared.table.Record.{Record}
 use Rattle.code.specs.declared.table.Extent.{Extent}
-use Rattle.code.specs.declared.table.Sealed.{Sealed}
-use Rattle.code.specs.Programs.{meant, code_at, program_at, records_at, extent_of, StandsAt}
+use Rattle.code.specs.Programs.{meant, code_at, program_at}
 
 module _ (m : Memory) (xs : List Record) where
-  pub no-function : (n : ℕ) (es : List Extent) (f pc : ℕ) → min n (length es) ≤ f → fetch (program_at m xs n es) f pc ≡ None
+  pub no-function : (es : List Extent) (f pc : ℕ) → length es ≤ f → fetch (program_at m xs es) f pc ≡ None
   unfolding program_at fetch
-  no-function n es f pc h =
-      ap (λ c. slice_get c pc)
-      (get_or_past (map (code_at m xs) (take n es)) f []
-      (let l = length-map (take n es) (code_at m xs) in let t = length-take n es in omega arith))
+  no-function es f pc h =
+      ap (λ c. slice_get c pc) (get_or_past (map (code_at m xs) es) f [] (let l = length-map es (code_at m xs) in omega arith))
 
-  pub of_function : (n : ℕ) (es : List Extent) (f pc : ℕ) (d : Extent) → f < n → f < length es → fetch (program_at m xs n es) f pc ≡ slice_get (code_at m xs (get_or es f d)) pc
+  of_function : (es : List Extent) (f pc : ℕ) (d : Extent) → f < length es → fetch (program_at m xs es) f pc ≡ slice_get (code_at m xs (get_or es f d)) pc
   unfolding program_at fetch
-  of_function n es f pc d a b =
-      ap (λ c. slice_get c pc)
-      (
-      get_or-map (code_at m xs) (take n es) f d [] (let t = length-take n es in omega arith)
-      ∙ ap (code_at m xs) (get_or-take n es f d a)
-      )
+  of_function es f pc d a = ap (λ c. slice_get c pc) (get_or-map (code_at m xs) es f d [] a)
+
+  -- what was looked up in the functions
+  pub looked-up : (es ys : List Extent) (f i pc : ℕ) (e : Extent) → ys ≡ es → i ≡ f → i < length ys → e ≡ get_or ys i e → fetch (program_at m xs es) f pc ≡ slice_get (code_at m xs e) pc
+  looked-up es ys f i pc e p q a h =
+      of_function es f pc e (omega (arith, ap length p)) ∙ sym (ap (λ z. slice_get (code_at m xs z) pc) (h ∙ (λ t. get_or (p t) (q t) e)))
 
   pub length-code : (e : Extent) → length (code_at m xs e) ≡ min e.len (length (drop e.start xs))
   unfolding code_at
@@ -48,23 +45,3 @@ module _ (m : Memory) (xs : List Record) where
       (let t = length-take e.len (drop e.start xs) in let k = length-drop e.start xs in omega arith)
       ∙ ap (meant m) (get_or-take e.len (drop e.start xs) pc d a ∙ get_or-drop e.start xs pc d)
       )
-
--- what is fetched stands in its function
-pub stands_at : (s : Sealed) (xs : List Record) (f pc : ℕ) (e : Extent) (x : Record) → f < s.functions → f < length s.extents → pc < (get_or s.extents f e).len → (get_or s.extents f e).start + pc < length xs → StandsAt s xs f pc (get_or xs ((get_or s.extents f e).start + pc) x)
-stands_at s xs f pc e x a b l h =
-    let n = length-take s.functions s.extents in
-    let low : f < length (take s.functions s.extents) = omega arith in
-    let same : (d : Extent) → extent_of s f d ≡ get_or s.extents f e = λ d. get_or-take s.functions s.extents f d a ∙ get_or_default s.extents f d e b in
-    let g = get_or s.extents f e in
-    let t = length-take g.len (drop g.start xs) in
-    let k = length-drop g.start xs in
-    let within : pc < length (records_at xs g) = omega arith in
-    record {
-      function = low;
-      place = λ d. subst (λ (z : Extent). pc < length (records_at xs z)) (sym (same d)) within;
-      is = λ d.
-          ap (λ (z : Extent). get_or (records_at xs z) pc (get_or xs (g.start + pc) x)) (same d)
-          ∙ get_or-take g.len (drop g.start xs) pc (get_or xs (g.start + pc) x) l
-          ∙ get_or-drop g.start xs pc (get_or xs (g.start + pc) x)
-          ∙ get_or_default xs (g.start + pc) (get_or xs (g.start + pc) x) x h;
-    }

@@ -1,16 +1,15 @@
 -- Laying a record, landing a jump, finishing a function: what they do to the code that stands.
-use Rattle.std.proofs.Common.{◌≡◌, ℕ, zero, suc, ◌+◌, ◌-◌, ◌^◌, ◌<◌, ◌≤◌, List, [], ◌∷◌, ◌++◌, map, length, get_or, take, drop, set, pos, sym, refl, ap, ◌∙◌, subst, arith, w32, to_z}
+use Rattle.std.proofs.Common.{◌≡◌, ℕ, zero, suc, ◌+◌, ◌-◌, ◌^◌, ◌<◌, ◌≤◌, List, All, [], ◌∷◌, ◌++◌, map, length, get_or, take, drop, set, pos, sym, refl, ap, ◌∙◌, subst, arith, w32, to_z}
 use borrow.Author.Differences.{ints}
-use Rattle.std.specs.List.{AllByRecursion}
 use Rattle.std.proofs.lemmas.List.{length-set, length-drop, take-set-le, take_more_set, drop-set-add, map-set, map_push, set_past}
-use Rattle.std.proofs.ByRecursion.{All-push, All-weaker}
+use Rattle.std.proofs.lemmas.List.Elements.{All-push, All-weaker}
 use Rattle.text.specs.Memory.{Memory}
 use Rattle.machine.specs.Instr.{Instr, Program}
 use Rattle.code.specs.declared.table.Record.{Record}
 use Rattle.code.specs.declared.table.Extent.{Extent}
 use Rattle.code.specs.declared.table.Open.{Open}
 use Rattle.code.specs.Programs.{meant, code_at, program_at}
-use Rattle.code.specs.Laying.{function_limit, origin, end_of, Lays}
+use Rattle.code.specs.Laying.{origin, end_of, Lays}
 use Rattle.code.proofs.Fetching.{length-code}
 
 -- a record written behind a function leaves its code
@@ -23,11 +22,11 @@ code-before m xs e k x h =
     ∙ ap (map (meant m)) (take-set-le e.len (drop e.start xs) (k - e.start) x (omega arith))
 
 -- and so all functions
-functions-before : (m : Memory) (xs : List Record) (k : ℕ) (x : Record) (es : List Extent) → AllByRecursion (λ e. end_of e ≤ k) es → map (code_at m (set xs k x)) es ≡ map (code_at m xs) es
+functions-before : (m : Memory) (xs : List Record) (k : ℕ) (x : Record) (es : List Extent) → All (λ (e : Extent). end_of e ≤ k) es → map (code_at m (set xs k x)) es ≡ map (code_at m xs) es
 functions-before m xs k x [] h = refl
 functions-before m xs k x (e ∷ es) h =
-    ap (λ c. c ∷ map (code_at m (set xs k x)) es) (code-before m xs e k x h.0)
-    ∙ ap (λ cs. code_at m xs e ∷ cs) (functions-before m xs k x es h.1)
+    ap (λ c. c ∷ map (code_at m (set xs k x)) es) (code-before m xs e k x (h 0 e (omega arith)))
+    ∙ ap (λ cs. code_at m xs e ∷ cs) (functions-before m xs k x es (λ i d l. h (suc i) d (omega arith)))
 
 -- a record directly behind a function makes it longer by one
 code-more : (m : Memory) (xs : List Record) (s n : ℕ) (x : Record) → s + n < length xs → code_at m (set xs (s + n) x) (record { start = s; len = n + 1 }) ≡ code_at m xs (record { start = s; len = n }) ++ meant m x ∷ []
@@ -63,11 +62,11 @@ distance n i k a b e = omega (arith, ints)
 
 module _ {m : Memory} {xs : List Record} {o : Open} {P : Program} {c : List Instr} (l : Lays m xs o P c) where
   -- nothing finished reaches behind the start of the function under way
-  before : (k : ℕ) → o.current.start ≤ k → (x : Record) → program_at m (set xs k x) o.finished o.extents ≡ P
+  before : (k : ℕ) → o.current.start ≤ k → (x : Record) → program_at m (set xs k x) o.finished.items ≡ P
   unfolding program_at
   before k h x =
-      functions-before m xs k x (take o.finished o.extents)
-      (All-weaker (λ e. end_of e ≤ o.current.start) (λ e. end_of e ≤ k) (λ e q. omega arith) _ l.apart)
+      functions-before m xs k x o.finished.items
+      (All-weaker (λ (e : Extent). end_of e ≤ o.current.start) (λ (e : Extent). end_of e ≤ k) (λ e q. omega arith) _ l.apart)
       ∙ l.finished
 
   pub length-laid : o.current.len ≡ length c
@@ -76,61 +75,47 @@ module _ {m : Memory} {xs : List Record} {o : Open} {P : Program} {c : List Inst
       let i = l.inside in
       let e : length (code_at m xs o.current) ≡ length c = ap length l.current in omega arith
 
-  pub laid : (x : Record) → end_of o.current < length xs → o.current.len < 2 ^ 31 - 1 → Lays m (set xs (end_of o.current) x) (record { finished = o.finished; extents = o.extents; current = record { start = o.current.start; len = o.current.len + 1 } }) P (c ++ meant m x ∷ [])
-  laid x h s =
+  -- p has the functions of o, and one record more of the one under way
+  pub laid : (p : Open) (x : Record) → p.finished.items ≡ o.finished.items → p.current ≡ record { start = o.current.start; len = o.current.len + 1 } → end_of o.current < length xs → Lays m (set xs (end_of o.current) x) p P (c ++ meant m x ∷ [])
+  laid p x f g h =
       record {
-        finished = before (end_of o.current) (omega arith) x;
-        current = code-more m xs o.current.start o.current.len x h ∙ ap (λ d. d ++ meant m x ∷ []) l.current;
-        apart = l.apart;
-        few = l.few;
-        all = l.all;
-        inside = let n = length-set xs (end_of o.current) x in omega arith;
-        short = omega arith;
+        finished = rw f (before (end_of o.current) (omega arith) x);
+        current = rw g (code-more m xs o.current.start o.current.len x h ∙ ap (λ d. d ++ meant m x ∷ []) l.current);
+        apart = rw (f, g) l.apart;
+        inside = rw g (let n = length-set xs (end_of o.current) x in omega arith);
       }
 
-  pub landed : (i : ℕ) (x : Record) → Lays m (set xs (o.current.start + i) x) o P (set c i (meant m x))
-  landed i x =
+  pub landed : (i : ℕ) (x : Record) (j : Instr) → meant m x ≡ j → Lays m (set xs (o.current.start + i) x) o P (set c i j)
+  landed i x j e =
       record {
         finished = before (o.current.start + i) (omega arith) x;
-        current = code-set m xs o.current i x ∙ ap (λ d. set d i (meant m x)) l.current;
+        current = code-set m xs o.current i x ∙ ap (λ d. set d i (meant m x)) l.current ∙ ap (set c i) e;
         apart = l.apart;
-        few = l.few;
-        all = l.all;
         inside = let n = length-set xs (o.current.start + i) x in let b = l.inside in omega arith;
-        short = l.short;
       }
-
-  pub landed-as : (i : ℕ) (x : Record) (j : Instr) → meant m x ≡ j → Lays m (set xs (o.current.start + i) x) o P (set c i j)
-  landed-as i x j e = subst (λ k. Lays m (set xs (o.current.start + i) x) o P (set c i k)) e (landed i x)
 
   -- a place behind the code is none
   pub landed-nowhere : (i : ℕ) (j : Instr) → o.current.len ≤ i → Lays m xs o P (set c i j)
   landed-nowhere i j h =
       subst (Lays m xs o P) (sym (set_past c i j (let n = length-laid in omega arith))) l
 
-  fits : o.finished < length o.extents
-  fits = let f = l.few in let a = l.all in omega arith
-
   -- one function more
-  pub more-functions : program_at m xs (o.finished + 1) (set o.extents o.finished o.current) ≡ P ++ c ∷ []
+  pub more-functions : (es : List Extent) → es ≡ o.finished.items ++ o.current ∷ [] → program_at m xs es ≡ P ++ c ∷ []
   unfolding program_at
-  more-functions =
-      ap (map (code_at m xs)) (take_more_set o.extents o.finished o.current fits)
-      ∙ map_push (code_at m xs) (take o.finished o.extents) o.current
+  more-functions es e =
+      rw e
+      (map_push (code_at m xs) o.finished.items o.current
       ∙ ap (λ Q. Q ++ code_at m xs o.current ∷ []) l.finished
-      ∙ ap (λ d. P ++ d ∷ []) l.current
+      ∙ ap (λ d. P ++ d ∷ []) l.current)
 
-  pub begun : suc o.finished < function_limit → Lays m xs (record { finished = o.finished + 1; extents = set o.extents o.finished o.current; current = record { start = end_of o.current; len = 0 } }) (P ++ c ∷ []) []
+  pub begun : (p : Open) → p.finished.items ≡ o.finished.items ++ o.current ∷ [] → p.current ≡ record { start = end_of o.current; len = 0 } → Lays m xs p (P ++ c ∷ []) []
   unfolding code_at
-  begun h =
+  begun p f g =
       record {
-        finished = more-functions;
-        current = refl;
-        apart = subst (AllByRecursion (λ e. end_of e ≤ end_of o.current)) (sym (take_more_set o.extents o.finished o.current fits))
-            (All-push (λ e. end_of e ≤ end_of o.current) (take o.finished o.extents) o.current
-            (All-weaker (λ e. end_of e ≤ o.current.start) (λ e. end_of e ≤ end_of o.current) (λ e q. omega arith) _ l.apart) (omega arith));
-        few = omega arith;
-        all = length-set o.extents o.finished o.current ∙ l.all;
-        inside = let b = l.inside in omega arith;
-        short = omega arith;
+        finished = more-functions p.finished.items f;
+        current = rw g refl;
+        apart = rw (f, g)
+            (All-push (λ (e : Extent). end_of e ≤ end_of o.current) o.finished.items o.current
+            (All-weaker (λ (e : Extent). end_of e ≤ o.current.start) (λ (e : Extent). end_of e ≤ end_of o.current) (λ e q. omega arith) _ l.apart) (omega arith));
+        inside = rw g (let b = l.inside in omega arith);
       }

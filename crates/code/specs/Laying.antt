@@ -1,6 +1,5 @@
 -- Code that is being laid. Assumes nothing.
-use Rattle.std.specs.Prelude.{◌≡◌, ℕ, suc, ◌+◌, ◌-◌, ◌^◌, ◌<◌, ◌≤◌, Bool, ◌&&◌, List, length, take, ℤ, pos, Some, None, Option, nat_lt, slice_set}
-use Rattle.std.specs.List.{AllByRecursion}
+use Rattle.std.specs.Prelude.{◌≡◌, ℕ, suc, ◌+◌, ◌-◌, ◌^◌, ◌≤◌, Bool, ◌&&◌, List, All, length, ℤ, pos, Some, None, Option, nat_lt, slice_set}
 use Rattle.text.specs.Memory.{Memory}
 use Rattle.machine.specs.declared.instruction.Register.{Register}
 use Rattle.machine.specs.Instr.{Instr, Program}
@@ -23,14 +22,11 @@ end_of e = e.start + e.len
 
 -- the table has these functions finished, and this code of the one under way
 pub record Lays (m : Memory) (xs : List Record) (o : Open) (P : Program) (c : List Instr) : Type 0 where
-  pub finished : program_at m xs o.finished o.extents ≡ P
+  pub finished : program_at m xs o.finished.items ≡ P
   pub current : code_at m xs o.current ≡ c
   -- no finished function reaches into the one under way
-  pub apart : AllByRecursion (λ e. end_of e ≤ o.current.start) (take o.finished o.extents)
-  pub few : o.finished < function_limit
-  pub all : length o.extents ≡ function_limit
+  pub apart : All (λ (e : Extent). end_of e ≤ o.current.start) o.finished.items
   pub inside : end_of o.current ≤ length xs
-  pub short : o.current.len < 2 ^ 31
 
 -- one more record has room in a table of n
 abbrev pub has_room : Open → ℕ → Bool
@@ -38,7 +34,7 @@ has_room o n = nat_lt (end_of o.current) n && nat_lt o.current.len (2 ^ 31 - 1)
 
 -- one more function does
 abbrev pub has_function_room : Open → Bool
-has_function_room o = nat_lt (suc o.finished) function_limit && nat_lt (end_of o.current) (2 ^ 32)
+has_function_room o = nat_lt (suc (length o.finished.items)) function_limit && nat_lt (end_of o.current) (2 ^ 32)
 
 -- a jump, if the register holds 0 or, without one, in any case
 abbrev pub jump_of : Option Register → ℤ → Instr

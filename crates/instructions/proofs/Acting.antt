@@ -12,12 +12,13 @@ use Rattle.store.specs.Tables.{Table, Tables, put, made, takes}
 use Rattle.machine.specs.declared.ending.Ending.{Ending}
 use Rattle.machine.specs.declared.ending.Ending.TheVariants.{Stuck, NoTableSpace}
 use Rattle.machine.specs.Limits.{registers_per_frame}
+use Rattle.machine.specs.Ending.{ended_by}
 use Rattle.machine.specs.Outcome.{unless}
 use Rattle.machine.specs.State.{Registers}
 use Rattle.machine.specs.Operands.{value_at, table_at}
 use Rattle.machine.specs.Step.{holds_global}
 use Rattle.operands.specs.Slots.{registers_of, answered}
-use Rattle.instructions.specs.Local.{set_at, set_global_at, make_at, set_key_at, ended_by}
+use Rattle.instructions.specs.Local.{set_at, set_global_at, make_at, set_key_at}
 use Rattle.operands.proofs.Slots.{slot-set}
 
 pub answer-set : (m : Memory) (xs : List (Option Value)) (i : ℕ) (x : Result Value Ending) (v : Value) → x ≡ Ok v → length xs ≡ registers_per_frame → i < length xs → Ok (registers_of m (set xs i (Some v))) ≡ set_at i (answered m x) (registers_of m xs)

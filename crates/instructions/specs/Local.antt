@@ -2,8 +2,6 @@
 use Rattle.std.specs.Prelude.{◌≡◌, ℕ, suc, cond, List, [], ◌∷◌, ◌++◌, length, ℤ, pos, ◌+ℤ◌, Some, None, Ok, Err, Option, Result, nat_lt}
 use Rattle.text.specs.Memory.{Memory}
 use Rattle.store.specs.declared.value.Value.{Value}
-use Rattle.store.specs.declared.Refusal.{Refusal}
-use Rattle.store.specs.declared.Refusal.TheVariants as refusal
 use Rattle.store.specs.Val.{Val}
 use Rattle.store.specs.Tables as store
 use Rattle.store.specs.Tables.{Table, Tables, put, takes}
@@ -141,11 +139,6 @@ Made m t a T (Ok u) xs ys holds =
     × (registers_of m ys ≡ write (registers_of m xs) a (Val.location (length T)))
     × holds (T ++ [] ∷ [])
 Made m t a T (Err e) xs ys holds = (make_at t a T ≡ Err e) × (ys ≡ xs) × holds T
-
--- how a run ends at a store's refusal
-abbrev pub ended_by : Refusal → Ending
-ended_by refusal.NoTable = Stuck
-ended_by refusal.Full = NoTableSpace
 
 -- the tables that a write leaves, or those before
 abbrev pub Wrote : Outcome Tables → Tables → Result (Unit {0}) Ending → (Tables → Type 0) → Type 0

@@ -1,52 +1,44 @@
 // The instructions that stay in their frame.
-ghost use Rattle.std.specs.Prelude.{◌≡◌, ℕ, suc, ◌^◌, ◌<◌, ◌≤◌, length};
+ghost use Rattle.std.specs.Prelude.{◌≡◌, ℕ, ◌^◌, ◌<◌, ◌≤◌, length, MatchResult};
 ghost use Rattle.text.specs.Memory.{Memory, memory_of};
 ghost use Rattle.store.specs.Tables.{Tables};
+ghost use Rattle.machine.specs.declared.ending.Ending.TheVariants.{Stuck};
 ghost use Rattle.machine.specs.Limits.{registers_per_frame, Limits};
 ghost use Rattle.machine.specs.Instr.{instr};
 ghost use Rattle.operands.specs.Slots.{registers_of, answered, Within, EndsBy};
 ghost use Rattle.operands.specs.Globals.{globals_of, GlobalsWithin};
 ghost use Rattle.operands.specs.Answering.{constant_end};
-ghost use Rattle.instructions.specs.Local.{jump_from, if_zero_from, set_global_at, set_key_at, set_at, placed, registers_after, globals_after, Unchanged, Made, ended_by, Wrote, limits, act, local, Executed};
+ghost use Rattle.instructions.specs.Local.{if_zero_from, set_global_at, set_key_at, set_at, placed, registers_after, globals_after, Unchanged, Made, Wrote, limits, act, local, Executed};
 
 use code::table::Place;
 use machine::ending::Ending;
 use machine::instruction::{Instruction, Offset, Register};
 use operands::answer::{Answer, answer_of};
 use operands::globals::Globals;
-use operands::registers::{location, value};
+use operands::registers::{operand, value};
+use store::Store;
 use store::value::{Identifier, Value};
-use store::{Refusal, Store};
 use text::span::Bytes;
-
-// The place behind an instruction.
-fn behind(pc: Place) -> Place
-    requires { pc.0 < 2 ^ 32 }
-    ensures { result.0 ≡ suc pc.0 }
-{
-    Place(pc.0 + 1)
-}
-
-// Where a jump leads: there is no place before 0.
-fn jump(pc: Place, n: Offset) -> Result<Place, Ending>
-    requires { pc.0 < 2 ^ 32 }
-    ensures { placed result ≡ jump_from pc.0 n.0 }
-{
-    let to = pc.0 as i64 + 1 + n.0 as i64;
-    if to < 0 {
-        Err(Ending::Stuck)
-    } else {
-        Ok(Place(to as u64))
-    }
-}
 
 fn if_zero(registers: &[Option<Value>], a: Register, pc: Place, n: Offset) -> Result<Place, Ending>
     requires { pc.0 < 2 ^ 32 }
     ensures { (m : Memory) → placed result ≡ if_zero_from pc.0 (registers_of m registers.now) a.0 n.0 }
 {
     match value(registers, a)? {
-        Value::Int(0) => jump(pc, n),
-        _ => Ok(behind(pc)),
+        Value::Int(0) => pc.jump(n).ok_or(Ending::Stuck),
+        _ => Ok(pc.next()),
+    }
+}
+
+// The index of a register that the frame has.
+fn target(registers: &[Option<Value>], a: Register) -> Result<usize, Ending>
+    ensures { MatchResult result (λ i. (i ≡ a.0) × (i < length registers.now)) (λ e. (e ≡ Stuck) × (length registers.now ≤ a.0)) }
+{
+    let i = usize::from(a.0);
+    if i < registers.len() {
+        Ok(i)
+    } else {
+        Err(Ending::Stuck)
     }
 }
 
@@ -56,10 +48,7 @@ fn set(registers: &mut [Option<Value>], answer: Answer) -> Result<(), Ending>
     ensures refused { Unchanged result registers.old registers.new }
     ensures within { (u : ℕ) → Within u registers.old → EndsBy u answer.value → Within u registers.new }
 {
-    let i = answer.target.0 as usize;
-    if i >= registers.len() {
-        return Err(Ending::Stuck);
-    }
+    let i = target(registers, answer.target)?;
     let v = answer.value?;
     registers[i] = Some(v);
     Ok(())
@@ -70,18 +59,13 @@ fn write_global(
     name: Identifier,
     a: Register,
     globals: &mut Globals,
-    bytes: Bytes<'_, '_, '_>,
 ) -> Result<(), Ending>
     ensures written { (m : Memory) → globals_after m result globals.new ≡ set_global_at (registers_of m registers.now) a.0 name.0 (globals_of m globals.old) }
     ensures refused { Unchanged result globals.old globals.new }
     ensures within { (u : ℕ) → Within u registers.now → GlobalsWithin u globals.old → GlobalsWithin u globals.new }
 {
-    let v = value(registers, a)?;
-    if globals.write(name, v, bytes) {
-        Ok(())
-    } else {
-        Err(Ending::Stuck)
-    }
+    globals.write(name, value(registers, a)?)?;
+    Ok(())
 }
 
 // A new table, and its location in a register.
@@ -95,27 +79,10 @@ fn make_table<S: Store>(
     ensures store_within { (u : ℕ) → S.Store.within store.old u → S.Store.within store.new u }
     ensures limits { (S.Store.tables store.new ≡ S.Store.tables store.old) × (S.Store.room store.new ≡ S.Store.room store.old) }
 {
-    let i = a.0 as usize;
-    if i >= registers.len() {
-        return Err(Ending::Stuck);
-    }
-    match store.make() {
-        Some(l) => {
-            registers[i] = Some(Value::Loc(l));
-            Ok(())
-        }
-        None => Err(Ending::NoTableSpace),
-    }
-}
-
-// How a run ends at a store's refusal.
-fn ended_by(refusal: Refusal) -> Ending
-    ensures { result ≡ ended_by refusal }
-{
-    match refusal {
-        Refusal::NoTable => Ending::Stuck,
-        Refusal::Full => Ending::NoTableSpace,
-    }
+    let i = target(registers, a)?;
+    let l = store.make().ok_or(Ending::NoTableSpace)?;
+    registers[i] = Some(Value::Loc(l));
+    Ok(())
 }
 
 // A key's value, replaced or new.
@@ -131,13 +98,11 @@ fn write_key<S: Store>(
     ensures within { (u : ℕ) → Within u registers.now → S.Store.within store.old u → S.Store.within store.new u }
     ensures limits { (S.Store.tables store.new ≡ S.Store.tables store.old) × (S.Store.room store.new ≡ S.Store.room store.old) }
 {
-    let table = location(registers, a)?;
+    let table = operand(registers, a)?;
     let key = value(registers, b)?;
     let v = value(registers, c)?;
-    match store.write(table, key, v, bytes) {
-        Ok(()) => Ok(()),
-        Err(refusal) => Err(ended_by(refusal)),
-    }
+    store.write(table, key, v, bytes)?;
+    Ok(())
 }
 
 // The instructions that act other than by an answer; those that leave the frame do nothing here.
@@ -155,19 +120,19 @@ fn act<S: Store>(
     ensures limits { (S.Store.tables store.new ≡ S.Store.tables store.old) × (S.Store.room store.new ≡ S.Store.room store.old) }
 {
     match i {
-        Instruction::Jmp(n) => jump(pc, n),
+        Instruction::Jmp(n) => pc.jump(n).ok_or(Ending::Stuck),
         Instruction::IfZero(a, n) => if_zero(registers, a, pc, n),
         Instruction::WrGlob(name, a) => {
-            write_global(registers, name, a, globals, bytes)?;
-            Ok(behind(pc))
+            write_global(registers, name, a, globals)?;
+            Ok(pc.next())
         }
         Instruction::MkTab(a) => {
             make_table(registers, a, store)?;
-            Ok(behind(pc))
+            Ok(pc.next())
         }
         Instruction::WrTab(a, b, c) => {
             write_key(registers, a, b, c, store, bytes)?;
-            Ok(behind(pc))
+            Ok(pc.next())
         }
         _ => Err(Ending::Stuck),
     }
@@ -190,7 +155,7 @@ pub fn execute<S: Store>(
     match answer_of(i, registers, globals, store, bytes) {
         Some(answer) => {
             set(registers, answer)?;
-            Ok(behind(pc))
+            Ok(pc.next())
         }
         None => act(i, pc, registers, globals, store, bytes),
     }

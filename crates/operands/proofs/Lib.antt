@@ -1,4 +1,2 @@
 pub mod Slots
 pub mod Naming
-pub mod Tabling
-pub mod Answering

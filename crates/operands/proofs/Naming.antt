@@ -1,138 +1,114 @@
 -- Globals by name: the first of a name is the table's.
-use Rattle.std.proofs.Common.{◌≡◌, ℕ, suc, ◌+◌, ◌<◌, ◌≤◌, Bool, true, false, cond, ◌||◌, eqb, ltb, List, [], ◌∷◌, ◌++◌, length, get_or, take, set, is_some, Some, None, Option, sym, refl, ap, ◌∙◌, inl, inr, add-one, arith}
-use lib.Seq.{take-set-lt}
-use Rattle.std.proofs.lemmas.List.{length-take-le, get_or-take, get_or-set_same, get_or-set_other, take_more_set}
+use Rattle.std.proofs.Common.{◌≡◌, ℕ, suc, ◌+◌, ◌<◌, ◌≤◌, Bool, true, false, cond, not, eqb, ltb, List, [], ◌∷◌, ◌++◌, map, length, get_or, set, is_some, Some, None, Option, sym, refl, ap, ◌∙◌, inl, inr, arith}
+use Prim.Native.Nat.compare
+use Rattle.std.specs.Option.{option_map}
+use Rattle.std.specs.List.{slice_get, position, position_or_len}
+use Rattle.std.specs.List.{refill}
+use Rattle.std.proofs.lemmas.List.{length-map, length-set}
+use Rattle.arrayvec.specs.ArrayVec.{ArrayVec}
+use Rattle.arrayvec.proofs.ArrayVecLemmas.{items-with_items}
+use Rattle.std.proofs.lemmas.List.Quantifiers.{position-Some}
 use Rattle.std.proofs.lemmas.Option.{slice_get-get_or}
-use Rattle.std.proofs.lemmas.Bool.{lt-ltb, le-ltb, or_right, cases_eq}
-use Rattle.std.specs.List.{slice_get}
+use Rattle.std.proofs.lemmas.Bool.{lt-ltb, le-ltb, or_right}
+use Rattle.std.proofs.lemmas.Bool.Decides.{eqb_tells}
 use Rattle.text.specs.Memory.{Memory}
-use Rattle.text.specs.First.{first_place, later}
 use Rattle.store.specs.declared.value.Value.{Value}
-use Rattle.store.specs.Val.{Val, equal_val, meaning, end_of}
-use Rattle.store.specs.Answers.{meant}
+use Rattle.store.specs.Val.{Val, equal_val, meaning}
 use Rattle.store.specs.Tables.{Table, look, put}
 use Rattle.machine.specs.Step.{holds_global}
-use Rattle.operands.specs.declared.globals.Globals.{Globals}
-use Rattle.operands.specs.declared.globals.Name.{Name}
-use Rattle.operands.specs.Globals.{filed, globals_of, GlobalsWithin}
+use Rattle.operands.specs.declared.globals.Global.{Global}
+use Rattle.operands.specs.Globals.{filed}
 
--- the value beside a place
-abbrev beside : List Value → Option ℕ → Option Value
-beside vs None = None
-beside vs (Some i) = slice_get vs i
+-- the place of the first that passes, one step into the list
+position-later : {A : Type 0} (p : A → Bool) (x : A) (xs : List A) → position p (x ∷ xs) ≡ cond (p x) (Some 0) (option_map suc (position p xs))
+position-later p x xs =
+    elim (p x) as (λ b. cond (ltb (cond (not b) (1 + position_or_len p xs) 0) (suc (length xs))) (Some (cond (not b) (1 + position_or_len p xs) 0)) None ≡ cond b (Some 0) (option_map suc (position p xs))) [
+      | true ↦ rw (lt-ltb 0 (suc (length xs)) (omega arith)) refl
+      | false ↦ behind (position_or_len p xs) (length xs)
+    ]
+  where
+    told : (b : Bool) (k : ℕ) → cond b (Some (suc k)) None ≡ option_map suc (cond b (Some k) None)
+    told true k = refl
+    told false k = refl
 
-beside-later : (v : Value) (vs : List Value) (o : Option ℕ) → beside (v ∷ vs) (later o) ≡ beside vs o
-beside-later v vs None = refl
-beside-later v vs (Some i) = rw add-one
+    behind : (k l : ℕ) → cond (ltb (1 + k) (suc l)) (Some (1 + k)) None ≡ option_map suc (cond (ltb k l) (Some k) None)
+    behind k l = let e : 1 + k ≡ suc k = omega arith in rw (e, compare.suc-suc (suc k) l) (told (ltb k l) k)
 
 module _ (m : Memory) (n : ℕ) where
-  abbrev named : Name → Bool
-  named k = eqb k.0 n
+  abbrev named : Global → Bool
+  named e = eqb e.name.0 n
+
+  -- the entry at a place
+  abbrev entry_at : List Global → Option ℕ → Option Global
+  entry_at es None = None
+  entry_at es (Some i) = slice_get es i
+
+  abbrev value_at : List Global → Option ℕ → Option Val
+  value_at es o = option_map (λ (e : Global). meaning m e.value) (entry_at es o)
+
+  value-later : (e : Global) (es : List Global) (o : Option ℕ) → value_at (e ∷ es) (option_map suc o) ≡ value_at es o
+  value-later e es None = refl
+  value-later e es (Some i) = refl
 
   -- the first of a name is the table's
-  pub look-named : (ns : List Name) (vs : List Value) → length ns ≡ length vs → look (Val.identifier n) (filed m ns vs) ≡ meant m (beside vs (first_place named ns))
-  unfolding look filed equal_val first_place
-  look-named [] vs e = refl
-  look-named (k ∷ ns) [] e = absurd (omega arith)
-  look-named (k ∷ ns) (v ∷ vs) e =
-      let rest = look-named ns vs (omega arith) ∙ ap (meant m) (sym (beside-later v vs (first_place named ns))) in
-      elim (named k) as (λ b. cond b (Some (meaning m v)) (look (Val.identifier n) (filed m ns vs)) ≡ meant m (beside (v ∷ vs) (cond b (Some 0) (later (first_place named ns))))) [
+  look-named : (es : List Global) → look (Val.identifier n) (map (filed m) es) ≡ value_at es (position named es)
+  unfolding look equal_val
+  look-named [] = refl
+  look-named (e ∷ es) =
+      rw (position-later named e es)
+      (elim (named e) as (λ b. cond b (Some (meaning m e.value)) (look (Val.identifier n) (map (filed m) es)) ≡ value_at (e ∷ es) (cond b (Some 0) (option_map suc (position named es)))) [
         | true ↦ refl
-        | false ↦ rest
-      ]
+        | false ↦ look-named es ∙ sym (value-later e es (position named es))
+      ])
+
+  pub held_found : (es : List Global) (i : ℕ) (d : Global) → Some i ≡ position named es → Some (meaning m (get_or es i d).value) ≡ look (Val.identifier n) (map (filed m) es)
+  held_found es i d h =
+      let p = position-Some named es i d (sym h) in
+      sym (look-named es ∙ ap (value_at es) (sym h) ∙ ap (option_map (λ (e : Global). meaning m e.value)) (slice_get-get_or es i d p.0))
+
+  pub held_none : (es : List Global) → None ≡ position named es → None ≡ look (Val.identifier n) (map (filed m) es)
+  held_none es h = sym (look-named es ∙ ap (value_at es) (sym h))
 
   module _ (w : Value) where
-    -- what a write leaves: the value in place, or one more name
-    abbrev after : List Name → List Value → Option ℕ → Table
-    after ns vs None = filed m (ns ++ record { 0 = n } ∷ []) (vs ++ w ∷ [])
-    after ns vs (Some i) = filed m ns (set vs i w)
+    abbrev mine : Global
+    mine = record { name = record { 0 = n }; value = w }
 
-    after-later : (k : Name) (ns : List Name) (v : Value) (vs : List Value) (o : Option ℕ) → (Val.identifier k.0, meaning m v) ∷ after ns vs o ≡ after (k ∷ ns) (v ∷ vs) (later o)
-    unfolding filed
-    after-later k ns v vs None = refl
-    after-later k ns v vs (Some i) = rw add-one
+    -- what a write leaves: the entry in place, or one more
+    abbrev after : List Global → Option ℕ → List Global
+    after es None = es ++ mine ∷ []
+    after es (Some i) = set es i mine
 
-    pub put-named : (ns : List Name) (vs : List Value) → length ns ≡ length vs → put (Val.identifier n) (meaning m w) (filed m ns vs) ≡ after ns vs (first_place named ns)
-    unfolding put filed equal_val first_place
-    put-named [] [] e = refl
-    put-named [] (v ∷ vs) e = absurd (omega arith)
-    put-named (k ∷ ns) [] e = absurd (omega arith)
-    put-named (k ∷ ns) (v ∷ vs) e =
-        let rest = ap (λ (t : Table). (Val.identifier k.0, meaning m v) ∷ t) (put-named ns vs (omega arith)) ∙ after-later k ns v vs (first_place named ns) in
-        elim (named k) as (λ b. cond b ((Val.identifier k.0, meaning m w) ∷ filed m ns vs) ((Val.identifier k.0, meaning m v) ∷ put (Val.identifier n) (meaning m w) (filed m ns vs)) ≡ after (k ∷ ns) (v ∷ vs) (cond b (Some 0) (later (first_place named ns)))) [
-          | true ↦ refl
-          | false ↦ rest
-        ]
+    after-later : (e : Global) (es : List Global) (o : Option ℕ) → after (e ∷ es) (option_map suc o) ≡ e ∷ after es o
+    after-later e es None = refl
+    after-later e es (Some i) = refl
 
-  pub length-filed : (ns : List Name) (vs : List Value) → length ns ≡ length vs → length (filed m ns vs) ≡ length ns
-  unfolding filed
-  length-filed [] vs e = refl
-  length-filed (k ∷ ns) [] e = absurd (omega arith)
-  length-filed (k ∷ ns) (v ∷ vs) e = ap suc (length-filed ns vs (omega arith))
+    put-named : (es : List Global) → map (filed m) (after es (position named es)) ≡ put (Val.identifier n) (meaning m w) (map (filed m) es)
+    unfolding put equal_val
+    put-named [] = refl
+    put-named (e ∷ es) =
+        rw (position-later named e es)
+        (elim (eqb_tells e.name.0 n) [
+          | inl h ↦ rw (h.0, h.1) refl
+          | inr h ↦ rw (h.0, after-later e es (position named es)) (ap (λ (t : Table). filed m e ∷ t) (put-named es))
+        ])
 
--- what a run's globals hold under a name
-module _ (m : Memory) (n : ℕ) (g : Globals) where
-  names-length : length (take g.len g.names) ≡ g.len
-  names-length = let s = g.sized in length-take-le g.len g.names (omega (arith, g.fits))
+  pub put-found : (es fs : List Global) (i : ℕ) (w : Value) → Some i ≡ position named es → fs ≡ set es i (mine w) → map (filed m) fs ≡ put (Val.identifier n) (meaning m w) (map (filed m) es)
+  put-found es fs i w h e = ap (map (filed m)) (e ∙ ap (after w es) h) ∙ put-named w es
 
-  values_length : length (take g.len g.values) ≡ g.len
-  values_length = let s = g.sized in length-take-le g.len g.values (omega (arith, g.fits))
+  pub put-fresh : (es fs : List Global) (w : Value) → None ≡ position named es → fs ≡ es ++ mine w ∷ [] → map (filed m) fs ≡ put (Val.identifier n) (meaning m w) (map (filed m) es)
+  put-fresh es fs w h e = ap (map (filed m)) (e ∙ ap (after w es) h) ∙ put-named w es
 
-  pub held_found : (i : ℕ) (d : Value) → Some i ≡ first_place (named m n) (take g.len g.names) → i < g.len → Some (meaning m (get_or g.values i d)) ≡ look (Val.identifier n) (globals_of m g)
-  unfolding globals_of
-  held_found i d e h =
-      sym
-      (look-named m n _ _ (names-length ∙ sym values_length) ∙ ap (λ o. meant m (beside (take g.len g.values) o)) (sym e)
-      ∙ ap (meant m) (slice_get-get_or (take g.len g.values) i d (omega (arith, values_length)) ∙ ap Some (get_or-take g.len g.values i d h)))
+  -- a name that is there, or one more, has room
+  pub has-place : (es : List Global) (v : Val) → Some v ≡ look (Val.identifier n) (map (filed m) es) → holds_global n (map (filed m) es) ≡ true
+  has-place es v h = rw (← h)
 
-  pub held_none : None ≡ first_place (named m n) (take g.len g.names) → None ≡ look (Val.identifier n) (globals_of m g)
-  unfolding globals_of
-  held_none e =
-      sym (look-named m n _ _ (names-length ∙ sym values_length) ∙ ap (λ o. meant m (beside (take g.len g.values) o)) (sym e))
+  pub has_room : (es : List Global) → length es < 32 → holds_global n (map (filed m) es) ≡ true
+  has_room es h =
+      or_right (is_some (look (Val.identifier n) (map (filed m) es))) (ltb (length (map (filed m) es)) 32) (lt-ltb _ _ (omega (arith, length-map es (filed m))))
 
-  pub put-found : (i : ℕ) (w : Value) (h : Globals) → Some i ≡ first_place (named m n) (take g.len g.names) → i < g.len → h.len ≡ g.len → h.names ≡ g.names → h.values ≡ set g.values i w → globals_of m h ≡ put (Val.identifier n) (meaning m w) (globals_of m g)
-  unfolding globals_of
-  put-found i w h e l el en ev =
-      rw (el, en, ev, take-set-lt g.len g.values i w l)
-      (sym (put-named m n w _ _ (names-length ∙ sym values_length) ∙ ap (after m n w (take g.len g.names) (take g.len g.values)) (sym e)))
+  pub no_room : (es : List Global) → None ≡ look (Val.identifier n) (map (filed m) es) → 32 ≤ length es → holds_global n (map (filed m) es) ≡ false
+  no_room es h l = rw (← h) (le-ltb _ _ (omega (arith, length-map es (filed m))))
 
-  pub put-fresh : (w : Value) (h : Globals) → None ≡ first_place (named m n) (take g.len g.names) → g.len < 32 → h.len ≡ g.len + 1 → h.names ≡ set g.names g.len record { 0 = n } → h.values ≡ set g.values g.len w → globals_of m h ≡ put (Val.identifier n) (meaning m w) (globals_of m g)
-  unfolding globals_of
-  put-fresh w h e l el en ev =
-      let s = g.sized in
-      rw (el, en, ev, take_more_set g.names g.len record { 0 = n } (omega arith), take_more_set g.values g.len w (omega arith))
-      (sym (put-named m n w _ _ (names-length ∙ sym values_length) ∙ ap (after m n w (take g.len g.names) (take g.len g.values)) (sym e)))
-
-  pub globals-count : length (globals_of m g) ≡ g.len
-  unfolding globals_of
-  globals-count = length-filed m n _ _ (names-length ∙ sym values_length) ∙ names-length
-
-  -- a name that is there, or one more
-  pub has-place : (o : Option Val) → o ≡ look (Val.identifier n) (globals_of m g) → is_some o ≡ true → holds_global n (globals_of m g) ≡ true
-  has-place o e h = rw (← e) (ap (λ b. b || ltb (length (globals_of m g)) 32) h)
-
-  pub has_room : g.len < 32 → holds_global n (globals_of m g) ≡ true
-  has_room h =
-      let r : ltb (length (globals_of m g)) 32 ≡ true = lt-ltb _ _ (omega (arith, globals-count)) in
-      or_right (is_some (look (Val.identifier n) (globals_of m g))) (ltb (length (globals_of m g)) 32) r
-
-  pub no_room : None ≡ look (Val.identifier n) (globals_of m g) → g.len ≡ 32 → holds_global n (globals_of m g) ≡ false
-  no_room e h = rw (← e) (le-ltb _ _ (omega (arith, globals-count)))
-
--- no global refers to what lies at u or behind it
-module _ (u : ℕ) (g : Globals) (h : GlobalsWithin u g) (w : Value) (l : end_of w ≤ u) where
-  pub within-set : (i k : ℕ) (d : Value) → i < g.len → k < g.len → end_of (get_or (set g.values i w) k d) ≤ u
-  within-set i k d a b =
-      let s = g.sized in
-      elim (cases_eq k i) [
-        | inl e ↦ rw (e, get_or-set_same g.values i w d (omega (arith, g.fits))) l
-        | inr n ↦ rw (get_or-set_other g.values i k w d n) (h k d b)
-      ]
-
-  pub within-fresh : (k : ℕ) (d : Value) → g.len < 32 → k < g.len + 1 → end_of (get_or (set g.values g.len w) k d) ≤ u
-  within-fresh k d a b =
-      let s = g.sized in
-      elim (cases_eq k g.len) [
-        | inl e ↦ rw (e, get_or-set_same g.values g.len w d (omega arith)) l
-        | inr n ↦ rw (get_or-set_other g.values g.len k w d n) (h k d (omega (arith, n)))
-      ]
+-- a write through the slice, as the vector then has it
+pub entry-set : (v : ArrayVec Global) (xs : List Global) (i : ℕ) (e : Global) → xs ≡ v.items → refill (length v.items) v.items (set xs i e) ≡ set v.items i e
+entry-set v xs i e h = rw h (items-with_items v (set v.items i e) (length-set v.items i e))

@@ -1,16 +1,14 @@
 -- What the registers of a frame mean over the bytes that are lent with them. Assumes nothing.
-use Rattle.std.specs.Prelude.{◌≡◌, ℕ, ◌≤◌, List, map, Some, None, Ok, Err, Option, Result, slice_index_or}
+use Rattle.std.specs.Prelude.{ℕ, ◌≤◌, List, map, Some, None, Ok, Err, Option, Result, slice_index_or}
 use Rattle.text.specs.Memory.{Memory}
-use Rattle.store.specs.declared.value.Identifier.{Identifier}
-use Rattle.store.specs.declared.value.Location.{Location}
 use Rattle.store.specs.declared.value.Value.{Value}
 use Rattle.store.specs.Val.{Val, meaning, end_of}
-use Rattle.store.specs.Tables.{Tables, made}
 use Rattle.store.specs.Answers.{meant}
 use Rattle.machine.specs.declared.ending.Ending.{Ending}
 use Rattle.machine.specs.declared.ending.Ending.TheVariants.{Stuck}
-use Rattle.machine.specs.Outcome.{unless}
+use Rattle.machine.specs.Outcome.{Outcome, ◌>>=◌}
 use Rattle.machine.specs.State.{Registers}
+use Rattle.machine.specs.Operands.{value_at}
 
 unfoldable pub registers_of : Memory → List (Option Value) → Registers
 registers_of m xs = map (meant m) xs
@@ -32,12 +30,18 @@ abbrev pub EndsBy : ℕ → Result Value Ending → Type 0
 EndsBy u (Ok v) = end_of v ≤ u
 EndsBy u (Err e) = Unit {0}
 
--- a function by its number
-abbrev pub numbered : Result Identifier Ending → Result ℕ Ending
-numbered (Ok g) = Ok g.0
-numbered (Err e) = Err e
+-- what was taken from a register, by what it means
+abbrev pub taken : {A B : Type 0} → (A → B) → Result A Ending → Outcome B
+taken means (Ok x) = Ok (means x)
+taken means (Err e) = Err e
 
--- a location that was read: x is the table there, if it was made
-abbrev pub Located : Tables → Result Location Ending → Result ℕ Ending → Type 0
-Located T (Ok l) x = x ≡ unless Stuck (made T l.0) (Ok l.0)
-Located T (Err e) x = x ≡ Err e
+-- what is wanted of a register's value
+abbrev pub wanted_at : {B : Type 0} → (Val → Outcome B) → Registers → ℕ → Outcome B
+wanted_at wanted R a = value_at R a >>= wanted
+
+-- a location, whether a table was made there or not
+abbrev pub location_in : Val → Outcome ℕ
+location_in (Val.int n) = Err Stuck
+location_in (Val.string s) = Err Stuck
+location_in (Val.identifier g) = Err Stuck
+location_in (Val.location l) = Ok l

@@ -8,7 +8,7 @@ ghost use Rattle.operands.specs.Globals.{globals_of, GlobalsWithin};
 ghost use Rattle.operands.specs.Answering.{answer_of, meant_answer, constant_end, AnswerWithin};
 
 use crate::globals::Globals;
-use crate::registers::{arith, equal, kind, ordered, required, value};
+use crate::registers::{arith, equal, kind, ordered, value};
 use crate::tables::{has_key, read_key};
 use machine::arith::{Op, Order};
 use machine::ending::Ending;
@@ -25,7 +25,8 @@ pub struct Answer {
 }
 
 fn given(target: Register, value: Result<Value, Ending>) -> Option<Answer>
-    ensures { result ≡ Some (record { target = target; value = value }) }
+    ensures is { result ≡ Some (record { target = target; value = value }) }
+    ensures within { (u : ℕ) → EndsBy u value → AnswerWithin u result }
 {
     Some(Answer { target, value })
 }
@@ -54,7 +55,7 @@ pub fn answer_of<S: Store>(
         Instruction::IsInt(a, b) => given(a, kind(registers, Kind::Integer, b)),
         Instruction::IsStr(a, b) => given(a, kind(registers, Kind::Text, b)),
         Instruction::IsTab(a, b) => given(a, kind(registers, Kind::Table, b)),
-        Instruction::RdGlob(a, g) => given(a, required(globals.read(g, bytes))),
+        Instruction::RdGlob(a, g) => given(a, globals.read(g).ok_or(Ending::Stuck)),
         Instruction::RdTab(a, b, c) => given(a, read_key(registers, b, c, store, bytes)),
         Instruction::HasTab(a, b, c) => given(a, has_key(registers, b, c, store, bytes)),
         _ => None,

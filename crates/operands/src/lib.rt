@@ -3,5 +3,6 @@
 
 pub mod answer;
 pub mod globals;
+pub mod operand;
 pub mod registers;
 pub mod tables;

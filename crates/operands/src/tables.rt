@@ -5,7 +5,7 @@ ghost use Rattle.store.specs.Tables.{Tables};
 ghost use Rattle.machine.specs.Operands.{key_at, has_key_at};
 ghost use Rattle.operands.specs.Slots.{registers_of, answered, Within, EndsBy};
 
-use crate::registers::{location, required, truth, value};
+use crate::registers::{operand, truth, value};
 use machine::ending::Ending;
 use machine::instruction::Register;
 use store::Store;
@@ -23,12 +23,9 @@ pub(crate) fn read_key<S: Store>(
     ensures read { (T : Tables) → S.Store.holds store.now (memory_of bytes.entry) T → answered (memory_of bytes.entry) result ≡ key_at T (registers_of (memory_of bytes.entry) registers.now) b.0 c.0 }
     ensures within { (u : ℕ) → S.Store.within store.now u → EndsBy u result }
 {
-    let table = location(registers, b)?;
+    let table = operand(registers, b)?;
     let key = value(registers, c)?;
-    match store.read(table, key, bytes) {
-        Ok(found) => required(found),
-        Err(_) => Err(Ending::Stuck),
-    }
+    store.read(table, key, bytes)?.ok_or(Ending::Stuck)
 }
 
 // Whether a key is there.
@@ -40,12 +37,9 @@ pub(crate) fn has_key<S: Store>(
     bytes: Bytes<'_, '_, '_>,
 ) -> Result<Value, Ending>
     ensures answered { (T : Tables) → S.Store.holds store.now (memory_of bytes.entry) T → answered (memory_of bytes.entry) result ≡ has_key_at T (registers_of (memory_of bytes.entry) registers.now) b.0 c.0 }
-    ensures within { (u : ℕ) → EndsBy u result }
+    ensures within { (u : ℕ) → S.Store.within store.now u → EndsBy u result }
 {
-    let table = location(registers, b)?;
+    let table = operand(registers, b)?;
     let key = value(registers, c)?;
-    match store.has(table, key, bytes) {
-        Ok(there) => Ok(truth(there)),
-        Err(_) => Err(Ending::Stuck),
-    }
+    Ok(truth(store.has(table, key, bytes)?))
 }

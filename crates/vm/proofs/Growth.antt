@@ -1,16 +1,14 @@
 -- Globals and code mean the same once more strings are made.
-use Rattle.std.proofs.Common.{◌≡◌, ℕ, suc, ◌<◌, ◌≤◌, List, [], ◌∷◌, map, length, get_or, take, refl, ap, arith}
-use Rattle.std.proofs.lemmas.List.{get_or-take, length-take}
+use Rattle.std.proofs.Common.{◌≡◌, ℕ, suc, ◌<◌, ◌≤◌, List, All, [], ◌∷◌, map, length, get_or, refl, ap, arith}
 use Rattle.text.specs.Memory.{Memory}
 use Rattle.text.specs.Agree.{Grown}
-use Rattle.store.specs.declared.value.Value.{Value}
 use Rattle.store.specs.Val.{Val, end_of}
 use Rattle.store.specs.ValuesLemmas.{meaning-grown}
 use Rattle.machine.specs.declared.instruction.Instruction.{Instruction}
 use Rattle.machine.specs.declared.instruction.Instruction.TheVariants as code
 use Rattle.machine.specs.Instr.{Instr, instr}
 use Rattle.operands.specs.declared.globals.Globals.{Globals}
-use Rattle.operands.specs.declared.globals.Name.{Name}
+use Rattle.operands.specs.declared.globals.Global.{Global}
 use Rattle.operands.specs.Globals.{filed, globals_of, GlobalsWithin}
 use Rattle.operands.specs.Answering.{constant_end}
 use Rattle.code.specs.declared.table.Record.{Record}
@@ -20,20 +18,13 @@ use Rattle.code.specs.Programs.{meant, code_at, program_at, program_of, records_
 use Rattle.vm.specs.Standing.{RecordsWithin, CodeWithin}
 
 module _ (u : ℕ) (m n : Memory) (g : Grown u m n) where
-  filed-grown : (ns : List Name) (vs : List Value) → ((i : ℕ) (d : Value) → i < length vs → end_of (get_or vs i d) ≤ u) → filed m ns vs ≡ filed n ns vs
-  unfolding filed
-  filed-grown [] vs h = refl
-  filed-grown (k ∷ ns) [] h = refl
-  filed-grown (k ∷ ns) (v ∷ vs) h = (λ i. (Val.identifier k.0, meaning-grown u m n v g (h 0 v (omega arith)) i) ∷ filed-grown ns vs (λ i d l. h (suc i) d (omega arith)) i)
+  entries-grown : (es : List Global) → All (λ (e : Global). end_of e.value ≤ u) es → map (filed m) es ≡ map (filed n) es
+  entries-grown [] h = refl
+  entries-grown (e ∷ es) h = (λ i. (Val.identifier e.name.0, meaning-grown u m n e.value g (h 0 e (omega arith)) i) ∷ entries-grown es (λ i d l. h (suc i) d (omega arith)) i)
 
   pub globals-grown : (G : Globals) → GlobalsWithin u G → globals_of m G ≡ globals_of n G
   unfolding globals_of
-  globals-grown G h =
-      filed-grown (take G.len G.names) (take G.len G.values)
-      (λ i d l.
-      let t = length-take G.len G.values in
-      let e = get_or-take G.len G.values i d (omega arith) in
-      rw e (h i d (omega arith)))
+  globals-grown G h = entries-grown G.entries.items h
 
   instr-grown : (i : Instruction) → constant_end i ≤ u → instr m i ≡ instr n i
   instr-grown (code.Const a v) h = ap (Instr.const a.0) (meaning-grown u m n v g h)
@@ -74,7 +65,7 @@ module _ (u : ℕ) (m n : Memory) (g : Grown u m n) where
 
   pub program-grown : (s : Sealed) (xs : List Record) → CodeWithin u s xs → program_of m s xs ≡ program_of n s xs
   unfolding program_at
-  program-grown s xs h = functions-grown xs (take s.functions s.extents) h
+  program-grown s xs h = functions-grown xs s.functions.items h
 
 module _ (u v : ℕ) (l : u ≤ v) where
   pub globals-wider : (G : Globals) → GlobalsWithin u G → GlobalsWithin v G

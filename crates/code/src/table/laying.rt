@@ -1,16 +1,13 @@
 // Laying code, one function behind another.
-ghost use Rattle.std.specs.Prelude.{◌≡◌, ℕ, ◌+◌, ◌-◌, ◌<◌, ◌≢◌, List, [], ◌∷◌, ◌++◌, map, length, pos, is_ok, MatchResult, OnErr, slice_index_or};
+ghost use Rattle.std.specs.Prelude.{◌≡◌, ℕ, ◌+◌, ◌<◌, ◌≢◌, false, List, [], ◌∷◌, ◌++◌, map, length, take, pos, is_ok, MatchResult, IfErr, OnErr, slice_index_or};
 ghost use Rattle.text.specs.Memory.{Memory};
 ghost use Rattle.machine.specs.Instr.{Instr, Program, instr};
 ghost use Rattle.code.specs.Programs.{meant, program_of};
 ghost use Rattle.code.specs.Laying.{origin, end_of, Lays, has_room, has_function_room, jump_of, landed_of};
 
-use crate::table::{Extent, FUNCTIONS, Full, Open, OpenJump, Record, Sealed};
+use crate::table::{Extent, FUNCTIONS, Full, Open, OpenJump, Place, Record, Sealed};
+use arrayvec::ArrayVec;
 use machine::instruction::{Instruction, Offset, Register};
-
-fn full() -> Full {
-    Full { hidden: () }
-}
 
 // A jump by n, if the register holds 0 or, without one, in any case.
 fn jump_of(test: Option<Register>, n: Offset) -> Instruction
@@ -27,11 +24,9 @@ impl Open {
     pub fn new() -> Open
         ensures nothing_laid { (m : Memory) (xs : List Record) → Lays m xs result [] [] }
     {
-        let none = Extent { start: 0, len: 0 };
         Open {
-            finished: 0,
-            extents: [none; FUNCTIONS],
-            current: none,
+            finished: ArrayVec::new(),
+            current: Extent::default(),
         }
     }
 
@@ -50,15 +45,35 @@ impl Open {
         ensures kept_where_refused { OnErr result ((self.new ≡ self.old) × (records.new ≡ records.old)) }
     {
         let Extent { start, len } = self.current;
-        let at = start as u64 + len as u64;
-        if at >= records.len() as u64 || len >= 0x7fff_ffff {
-            return Err(full());
+        let end = self.current.end();
+        if end >= records.len() as u64 || len >= 0x7fff_ffff {
+            return Err(Full(()));
         }
-        records[at as usize] = item;
+        records[end as usize] = item;
         self.current = Extent {
             start,
             len: len + 1,
         };
+        Ok(())
+    }
+
+    // Instructions of one origin, one behind another.
+    pub fn lay_all(
+        &mut self,
+        records: &mut [Record],
+        code: &[Instruction],
+        origin: u16,
+    ) -> Result<(), Full>
+        ensures laid { (m : Memory) (P : Program) (c : List Instr) → Lays m records.old self.old P c → MatchResult result (λ _. Lays m records.new self.new P (c ++ map (instr m) code.now)) (λ _. (k : ℕ) × (k < length code.now) × Lays m records.new self.new P (c ++ map (instr m) (take k code.now))) }
+        ensures refused { OnErr result (has_room self.new (length records.new) ≡ false) }
+    {
+        for instruction in code {
+            let item = Record {
+                instruction: *instruction,
+                origin,
+            };
+            self.lay(records, item)?;
+        }
         Ok(())
     }
 
@@ -79,10 +94,8 @@ impl Open {
             instruction: jump_of(test, Offset(0)),
             origin,
         };
-        match self.lay(records, jump) {
-            Ok(()) => Ok(OpenJump { at, test }),
-            Err(full) => Err(full),
-        }
+        self.lay(records, jump)?;
+        Ok(OpenJump { at, test })
     }
 
     // The function under way is finished, and the next one begins.
@@ -91,14 +104,11 @@ impl Open {
         ensures begun { (m : Memory) (xs : List Record) (P : Program) (c : List Instr) → Lays m xs self.old P c → MatchResult result (λ _. Lays m xs self.new (P ++ c ∷ []) []) (λ _. Lays m xs self.new P c) }
         ensures kept_where_refused { OnErr result (self.new ≡ self.old) }
     {
-        let Extent { start, len } = self.current;
-        let end = start as u64 + len as u64;
-        let n = self.finished as usize;
-        if n + 1 >= FUNCTIONS || end > 0xffff_ffff {
-            return Err(full());
+        let end = self.current.end();
+        if self.finished.len() + 1 >= FUNCTIONS || end > 0xffff_ffff {
+            return Err(Full(()));
         }
-        self.extents[n] = self.current;
-        self.finished += 1;
+        self.finished.push(self.current);
         self.current = Extent {
             start: end as u32,
             len: 0,
@@ -110,15 +120,12 @@ impl Open {
     pub fn seal(self) -> Sealed
         ensures all_that_was_laid { (m : Memory) (xs : List Record) (P : Program) (c : List Instr) → Lays m xs self P c → program_of m result xs ≡ P ++ c ∷ [] }
     {
-        let mut extents = self.extents;
-        let n = self.finished as usize;
-        if n < FUNCTIONS {
-            extents[n] = self.current;
-        }
-        Sealed {
-            functions: self.finished.saturating_add(1),
-            extents,
-        }
+        let Open {
+            finished: mut functions,
+            current,
+        } = self;
+        functions.push(current);
+        Sealed { functions }
     }
 }
 
@@ -130,11 +137,12 @@ impl OpenJump {
         ensures origins_kept { map origin records.new ≡ map origin records.old }
     {
         let OpenJump { at, test } = self;
-        let Extent { start, len } = code.current;
-        let i = start as u64 + at as u64;
-        if at < len && len <= 0x7fff_ffff && i < records.len() as u64 {
-            let n = len - at - 1;
-            records[i as usize].instruction = jump_of(test, Offset(n as i32));
+        let Some(i) = code.current.index(Place(u64::from(at))) else {
+            return;
+        };
+        if i < records.len() {
+            let n = code.current.len - at - 1;
+            records[i].instruction = jump_of(test, Offset(n as i32));
         }
     }
 

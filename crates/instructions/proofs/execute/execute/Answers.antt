@@ -9,8 +9,8 @@ use Rattle.instructions.specs.Local.{Local, limits, Executed}
 use Rattle.instructions.proofs.Local.{local-acts, local-set, local-refused}
 use Rattle.instructions.proofs.execute.execute.Goals as goal
 
-pub returns-in_err-set-in-Some : goal.returns-in_err-set-in-Some
-returns-in_err-set-in-Some g c =
+pub returns-in_err-set-in-Some-clause-executed : goal.returns-in_err-set-in-Some-clause-executed
+returns-in_err-set-in-Some-clause-executed g c =
     let p = err_from_is_err_and c.from_residual.result c.from_residual.ensures.1 in
     let a = c.args in
     let m = memory_of a.bytes in
@@ -20,19 +20,15 @@ returns-in_err-set-in-Some g c =
     let s = c.in-Some.ensures in
     let b = c.in_err-set-in-Some.ensures in
     rw (p.1, p.2)
-    (record {
-      executed = λ T h n. (
-        local-refused L (instr m a.i) a.pc.0 R T G c.in-Some.answer.target.0 (answered m c.in-Some.answer.value) (s.answered T h) _ (b.set m n),
-        b.refused,
-        refl,
-        h,
-      );
-      within = λ u hr hg hs hc. (b.within u hr (s.within u hr hg hs hc), hg, hs);
-      limits = (refl, refl);
-    })
+    (λ T h n. (
+      local-refused L (instr m a.i) a.pc.0 R T G c.in-Some.answer.target.0 (answered m c.in-Some.answer.value) (s.answered T h) _ (b.set m n),
+      b.refused,
+      refl,
+      h,
+    ))
 
-pub returns-in_ok-set-in-Some : goal.returns-in_ok-set-in-Some
-returns-in_ok-set-in-Some g c =
+pub returns-in_ok-set-in-Some-clause-executed : goal.returns-in_ok-set-in-Some-clause-executed
+returns-in_ok-set-in-Some-clause-executed g c =
     let a = c.args in
     let m = memory_of a.bytes in
     let L = limits (g.S.Store.tables a.store.now) (g.S.Store.room a.store.now) in
@@ -40,30 +36,21 @@ returns-in_ok-set-in-Some g c =
     let G = globals_of m a.globals.now in
     let s = c.in-Some.ensures in
     let b = c.in_ok-set-in-Some.ensures in
-    record {
-      executed = λ T h n. (
-        T,
-        local-set L (instr m a.i) a.pc.0 R T G c.in-Some.answer.target.0 (answered m c.in-Some.answer.value) (s.answered T h) _ _ c.behind.ensures (b.set m n),
-        h,
-      );
-      within = λ u hr hg hs hc. (b.within u hr (s.within u hr hg hs hc), hg, hs);
-      limits = (refl, refl);
-    }
+    λ T h n. (
+      T,
+      local-set L (instr m a.i) a.pc.0 R T G c.in-Some.answer.target.0 (answered m c.in-Some.answer.value) (s.answered T h) _ _ c.next.ensures.behind (b.set m n),
+      h,
+    )
 
-pub returns-in-None : goal.returns-in-None
-returns-in-None g c =
+pub returns-in-None-clause-executed : goal.returns-in-None-clause-executed
+returns-in-None-clause-executed g c =
     let a = c.args in
     let m = memory_of a.bytes in
     let L = limits (g.S.Store.tables a.store.now) (g.S.Store.room a.store.now) in
     let R = registers_of m a.registers.now in
     let G = globals_of m a.globals.now in
-    let e = c.act.ensures in
-    record {
-      executed = λ T h n.
-          subst
-          (λ (x : Outcome Local). Executed m x T c.act.result a.registers.now c.act.new.registers a.globals.now c.act.new.globals (g.S.Store.holds c.act.new.store m))
-          (sym (local-acts L (instr m a.i) a.pc.0 R T G (c.in-None.ensures.answered T h)))
-          (e.acted T h n);
-      within = λ u hr hg hs hc. e.within u hr hg hs;
-      limits = e.limits;
-    }
+    λ T h n.
+    subst
+    (λ (x : Outcome Local). Executed m x T c.act.result a.registers.now c.act.new.registers a.globals.now c.act.new.globals (g.S.Store.holds c.act.new.store m))
+    (sym (local-acts L (instr m a.i) a.pc.0 R T G (c.in-None.ensures.answered T h)))
+    (c.act.ensures.acted T h n)

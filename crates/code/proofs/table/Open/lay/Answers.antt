@@ -1,7 +1,6 @@
-use Rattle.std.proofs.Common.{arith, rules}
-use Rattle.std.proofs.lemmas.List.{get_or-set_other}
+use Rattle.std.proofs.Common.{refl, arith}
 use Rattle.code.proofs.Laying.{laid}
 use Rattle.code.proofs.table.Open.lay.Goals as goal
 
-pub returns : goal.returns
-returns c = record { refused = search rules; kept_where_refused = tt; laid = λ m P d l. laid l _ (omega arith) (omega arith); elsewhere = λ i d h. get_or-set_other _ _ i _ d h }
+pub returns-clause-laid : goal.returns-clause-laid
+returns-clause-laid c = λ m P d l. rw c.end-end.ensures (laid l _ _ refl refl (omega arith))

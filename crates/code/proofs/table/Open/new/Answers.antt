@@ -6,5 +6,5 @@ pub returns : goal.returns
 unfolding code_at program_at
 returns c =
     record {
-      nothing_laid = λ m xs. record { finished = refl; current = refl; apart = tt; few = omega arith; all = refl; inside = omega arith; short = omega arith };
+      nothing_laid = λ m xs. record { finished = rw c.new.ensures refl; current = rw c.default.ensures.1 refl; apart = rw c.new.ensures (λ i d h. absurd (omega arith)); inside = omega arith };
     }

@@ -1,33 +1,33 @@
-use Rattle.std.proofs.Common.{sym, ◌∙◌, arith}
-use Rattle.code.proofs.Fetching.{no-function, of_function, past-code, past-table, in_code, stands_at}
+use Rattle.std.proofs.Common.{◌≡◌, ◌+◌, get_or, length, Some, sym, ap, ◌∙◌, arith}
+use Rattle.code.specs.Programs.{meant}
+use Rattle.code.proofs.Fetching.{no-function, looked-up, past-code, past-table, in_code}
 use Rattle.code.proofs.table.Sealed.fetch.Goals as goal
 
-pub returns-then-f-self : goal.returns-then-f-self
-returns-then-f-self c = record { of_the_program = λ m. sym (no-function m _ _ _ _ _ (omega arith)); in_the_table = tt; placed = tt }
+pub returns-in_err-extent-clause-of_the_program : goal.returns-in_err-extent-clause-of_the_program
+returns-in_err-extent-clause-of_the_program c =
+    λ m. rw c.from_residual.ensures (sym (no-function m _ _ _ _ (omega (arith, c.in_err-extent.ensures.lookup.3, c.from.ensures, ap length c.deref.ensures.0))))
 
-pub returns-then-pc-extent : goal.returns-then-pc-extent
-returns-then-pc-extent c =
-    record {
-      of_the_program = λ m. sym (of_function m _ _ _ _ _ _ c.if-f-self.false c.if-f-extents.false ∙ past-code m _ _ _ c.if-pc-extent.true);
-      in_the_table = tt;
-      placed = tt;
-    }
+pub returns-in_err-index-clause-of_the_program : goal.returns-in_err-index-clause-of_the_program
+returns-in_err-index-clause-of_the_program c =
+    let k = c.in_ok-extent.ensures.lookup in
+    λ m. rw c.from_residual-in_err-index.ensures
+    (sym (looked-up m _ _ _ _ _ _ c.in_ok-extent.extent.now c.deref.ensures.0 c.from.ensures k.3.0 k.1 ∙ past-code m _ _ _ c.in_err-index.ensures.within))
 
-pub returns-then-at-records : goal.returns-then-at-records
-returns-then-at-records c =
-    record {
-      of_the_program = λ m. sym (of_function m _ _ _ _ _ _ c.if-f-self.false c.if-f-extents.false ∙ past-table m _ _ _ c.if-at-records.true);
-      in_the_table = tt;
-      placed = tt;
-    }
+pub returns-in_err-record-clause-of_the_program : goal.returns-in_err-record-clause-of_the_program
+returns-in_err-record-clause-of_the_program c =
+    let k = c.in_ok-extent.ensures.lookup in
+    let i = c.in_ok-index.ensures.within in
+    λ m. rw c.from_residual-in_err-record.ensures
+    (sym (looked-up m _ _ _ _ _ _ c.in_ok-extent.extent.now c.deref.ensures.0 c.from.ensures k.3.0 k.1 ∙ past-table m _ _ _ (omega (arith, c.in_err-record.ensures.lookup.3, i.1))))
 
-pub returns : goal.returns
-returns c =
-    record {
-      of_the_program = λ m. sym (
-          of_function m _ _ _ _ _ _ c.if-f-self.false c.if-f-extents.false
-          ∙ in_code m _ _ _ _ c.if-pc-extent.false c.if-at-records.false
-          );
-      in_the_table = stands_at c.args.self.now c.args.records.now _ _ _ _ c.if-f-self.false c.if-f-extents.false c.if-pc-extent.false c.if-at-records.false;
-      placed = omega arith;
-    }
+pub returns-clause-of_the_program : goal.returns-clause-of_the_program
+returns-clause-of_the_program c =
+    let k = c.in_ok-extent.ensures.lookup in
+    let i = c.in_ok-index.ensures.within in
+    let r = c.in_ok-record.ensures.lookup in
+    let e : get_or c.args.records.now (c.in_ok-extent.extent.now.start + c.args.pc.0) c.in_ok-record.record.now ≡ c.in_ok-record.record.now = rw (← i.1) (sym r.1) in
+    λ m. sym (
+    looked-up m _ _ _ _ _ _ c.in_ok-extent.extent.now c.deref.ensures.0 c.from.ensures k.3.0 k.1
+    ∙ in_code m _ _ _ c.in_ok-record.record.now i.0 (omega (arith, r.3.0, i.1))
+    ∙ ap (λ x. Some (meant m x)) e
+    )

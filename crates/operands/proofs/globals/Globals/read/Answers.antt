@@ -1,19 +1,11 @@
-use Rattle.std.proofs.Common.{arith}
+use Rattle.operands.specs.Globals.{globals_of}
 use Rattle.operands.proofs.Naming.{held_found, held_none}
 use Rattle.operands.proofs.globals.Globals.read.Goals as goal
 
-pub returns-in-Some : goal.returns-in-Some
-returns-in-Some c =
-    let g = c.args.self.now in
-    let p = c.in-Some.ensures in
-    record {
-      held = λ m. held_found m c.args.name.0 g c.in-Some.i _ p.first p.within;
-      within = λ u h. h c.in-Some.i _ p.within;
-    }
+pub returns-in_err-i-clause-held : goal.returns-in_err-i-clause-held
+unfolding globals_of
+returns-in_err-i-clause-held c = λ m. rw c.from_residual.ensures (held_none m c.args.name.0 _ c.in_err-i.ensures.first)
 
-pub returns-in-None : goal.returns-in-None
-returns-in-None c =
-    record {
-      held = λ m. held_none m c.args.name.0 c.args.self.now c.in-None.ensures.first;
-      within = λ u h. omega arith;
-    }
+pub returns-clause-held : goal.returns-clause-held
+unfolding globals_of
+returns-clause-held c = λ m. rw c.deref.ensures.0 (held_found m c.args.name.0 _ c.in_ok-i.i _ c.in_ok-i.ensures.first)

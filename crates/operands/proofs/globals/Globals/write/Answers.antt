@@ -1,38 +1,36 @@
-use Rattle.std.proofs.Common.{◌<◌, refl, arith}
-use Rattle.operands.proofs.Naming.{held_found, held_none, put-found, put-fresh, has-place, has_room, no_room, within-set, within-fresh}
+use Rattle.std.proofs.Common.{inl, inr, ◌<◌, length, sym, refl, arith}
+use Rattle.std.proofs.lemmas.Grind.{common_steps}
+use Rattle.std.proofs.lemmas.Bool.Decides.{Decides-eqb, eqb_tells}
+use Rattle.operands.specs.Globals.{globals_of}
+use Rattle.operands.proofs.Naming.{held_found, held_none, put-found, put-fresh, has-place, has_room, no_room, entry-set}
 use Rattle.operands.proofs.globals.Globals.write.Goals as goal
 
-pub returns-then-n-eq32 : goal.returns-then-n-eq32
-returns-then-n-eq32 c =
-    let g = c.args.self.now in
-    let n = c.args.name.0 in
-    record {
-      written = λ m. (no_room m n g (held_none m n g c.in-None.ensures.first) c.if-n-eq32.true, refl);
-      within = λ u h e. h;
-    }
+pub returns-in-None-clause-written : goal.returns-in-None-clause-written
+unfolding globals_of
+returns-in-None-clause-written c =
+    let full = (Decides-eqb _ _).0 (sym c.if-is_full.ensures.value) in
+    λ m. (no_room m c.args.name.0 _ (held_none m c.args.name.0 _ c.in-None.ensures.first) (omega arith), refl)
 
-pub returns-in-Some : goal.returns-in-Some
-returns-in-Some c =
-    let g = c.args.self.now in
-    let n = c.args.name.0 in
-    let p = c.in-Some.ensures in
-    record {
-      written = λ m. (
-        has-place m n g _ (held_found m n g c.in-Some.i c.args.value p.first p.within) refl,
-        put-found m n g c.in-Some.i c.args.value _ p.first p.within refl refl refl,
-      );
-      within = λ u h e k d l. within-set u g h c.args.value e c.in-Some.i k d p.within l;
-    }
+pub returns-in-Some-clause-written : goal.returns-in-Some-clause-written
+unfolding globals_of
+returns-in-Some-clause-written c =
+    let es = c.args.self.now.entries in
+    let h = c.in-Some.ensures.first in
+    λ m. (
+      has-place m c.args.name.0 _ _ (held_found m c.args.name.0 es.items c.in-Some.i (record { name = c.args.name; value = c.args.value }) h),
+      put-found m c.args.name.0 es.items _ c.in-Some.i c.args.value h (entry-set es _ c.in-Some.i _ c.deref_mut.ensures.value),
+    )
 
-pub returns-else-n-eq32 : goal.returns-else-n-eq32
-returns-else-n-eq32 c =
-    let g = c.args.self.now in
-    let n = c.args.name.0 in
-    let few : g.len < 32 = omega (arith, g.fits, c.if-n-eq32.false) in
-    record {
-      written = λ m. (
-        has_room m n g few,
-        put-fresh m n g c.args.value _ c.in-None.ensures.first few refl refl refl,
-      );
-      within = λ u h e k d l. within-fresh u g h c.args.value e k d few l;
-    }
+pub returns-in-Some-clause-within : goal.returns-in-Some-clause-within
+returns-in-Some-clause-within c =
+    λ u g e. rw (entry-set c.args.self.now.entries _ c.in-Some.i (record { name = c.args.name; value = c.args.value }) c.deref_mut.ensures.value) (grind (arith, common_steps))
+
+pub returns-in-None-2-clause-written : goal.returns-in-None-2-clause-written
+unfolding globals_of
+returns-in-None-2-clause-written c =
+    let n = length c.args.self.now.entries.items in
+    let few : n < 32 = elim (eqb_tells n 32) [ inl h ↦ cc (h.0, c.if-is_full.ensures.value) | inr h ↦ omega (arith, h.1, c.if-is_full.ensures.fits) ] in
+    λ m. (
+      has_room m c.args.name.0 _ few,
+      put-fresh m c.args.name.0 _ _ c.args.value c.in-None.ensures.first c.push.ensures.items,
+    )

@@ -1,0 +1,69 @@
+// What an instruction can want of a register: what a value of one kind holds.
+ghost use Rattle.std.specs.Prelude.{◌≡◌, ℕ, ℤ};
+ghost use Rattle.text.specs.Memory.{Memory};
+ghost use Rattle.store.specs.Val.{Val, meaning};
+ghost use Rattle.machine.specs.Outcome.{Outcome};
+ghost use Rattle.machine.specs.Builtin.{integer_in};
+ghost use Rattle.machine.specs.Operands.{function_in};
+ghost use Rattle.operands.specs.Slots.{taken, location_in};
+
+use machine::ending::Ending;
+use store::value::{Identifier, Location, Value};
+
+pub trait Operand: Copy {
+    // what it means, and what a value has to mean for it
+    ghost Meaning: { Type 0 };
+
+    ghost means: { Self → Meaning };
+
+    ghost wanted: { Val → Outcome Meaning };
+
+    // A value of another kind leaves the run stuck.
+    fn of_value(value: Value) -> Result<Self, Ending>
+        ensures { (m : Memory) → taken means result ≡ wanted (meaning m value) };
+}
+
+impl Operand for i32 {
+    ghost Meaning = { ℤ };
+
+    ghost means = { λ n. n };
+
+    ghost wanted = { integer_in };
+
+    fn of_value(value: Value) -> Result<i32, Ending> {
+        match value {
+            Value::Int(n) => Ok(n),
+            _ => Err(Ending::Stuck),
+        }
+    }
+}
+
+impl Operand for Identifier {
+    ghost Meaning = { ℕ };
+
+    ghost means = { λ g. g.0 };
+
+    ghost wanted = { function_in };
+
+    fn of_value(value: Value) -> Result<Identifier, Ending> {
+        match value {
+            Value::Ident(g) => Ok(g),
+            _ => Err(Ending::Stuck),
+        }
+    }
+}
+
+impl Operand for Location {
+    ghost Meaning = { ℕ };
+
+    ghost means = { λ l. l.0 };
+
+    ghost wanted = { location_in };
+
+    fn of_value(value: Value) -> Result<Location, Ending> {
+        match value {
+            Value::Loc(l) => Ok(l),
+            _ => Err(Ending::Stuck),
+        }
+    }
+}
