@@ -8,7 +8,7 @@ use text::span::{Space, Span};
 pub const ARGUMENTS: u16 = 4;
 
 // A name of no bytes.
-const NO_NAME: Span = Span {
+pub const NO_NAME: Span = Span {
     space: Space::Texts,
     start: 0,
     len: 0,

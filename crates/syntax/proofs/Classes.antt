@@ -1,5 +1,5 @@
 -- A whole class, token by token.
-use Rattle.std.proofs.Common.{◌≡◌, ℕ, ◌≤◌, List, [], ◌∷◌, map, length, Some, sym, refl, ap, ◌∙◌, subst}
+use Rattle.std.proofs.Common.{◌≡◌, ℕ, ◌≤◌, List, [], ◌∷◌, map, length, Some, sym, refl, ap, ◌∙◌, subst, arith}
 use mathlib.Core.Option.{some}
 use Rattle.lexer.specs.Token.{Terminal, identifier, keyword, symbol}
 use Rattle.lexer.specs.Tokens.{Placed}
@@ -15,13 +15,14 @@ use Rattle.grammar.specs.Notes.{forget_text, first, annotate_text}
 use Rattle.grammar.proofs.Steps.{name-halts, only-halts, either-halts, class-halts}
 use Rattle.nodes.specs.declared.node.Node.{Node}
 use Rattle.nodes.specs.declared.node.Method.{Method}
-use Rattle.syntax.specs.declared.read.Members.{Members}
+use Rattle.syntax.specs.declared.table.Table.{Table}
 use Rattle.syntax.specs.declared.read.Judged.{Judged}
 use Rattle.syntax.specs.declared.sight.Sort.{Sort}
 use Rattle.syntax.specs.declared.sight.Sort.TheVariants as sort
 use Rattle.syntax.specs.Left.{left, terms, places}
 use Rattle.syntax.specs.Sight.{slice, shown, head_sort}
 use Rattle.nodes.specs.Trees.{span_of}
+use Rattle.nodes.specs.Methods.{MethodsAt}
 use Rattle.syntax.specs.Parsing.{Ahead}
 use Rattle.syntax.specs.Classes.{class_with, MembersMeasured, MembersRefused}
 use Rattle.syntax.specs.Ended.{TextStuck}
@@ -88,45 +89,46 @@ module _ {text : List ℕ} where
             pub members-lost : {e : ℕ} → MembersRefused text p5 e → TextStuck Kind.class text e
             members-lost r = record { from = r.from; ahead = ahead-then at5.ahead r.ahead; place = r.place; way = at5.way ∙ r.way (slice text n2 p2) (slice text n4 p4) }
 
-            module _ {base : ℕ} {ys : List Node} {rs : List Method} {j : Judged Members} (M : MembersMeasured text base p5 ys rs j) where
+            module _ {base : ℕ} {xs ys : Table Node} {rs ss : Table Method} {j : Judged ℕ} (M : MembersMeasured text base p5 xs ys rs ss j) where
               whole-class : tree.Class ℕ
               whole-class = record { name = slice text n2 p2; parent = slice text n4 p4; methods = M.read.methods }
 
-              at6 : At text j.read.to (State.define (Stage.members (class_with (slice text n2 p2) (slice text n4 p4) M.read.methods)))
+              at6 : At text j.read (State.define (Stage.members (class_with (slice text n2 p2) (slice text n4 p4) M.read.methods)))
               at6 = record { ahead = ahead-then at5.ahead M.read.ahead; way = at5.way ∙ M.read.way (slice text n2 p2) (slice text n4 p4) }
 
-              pub class-end-lost : {e : ℕ} → (head_sort (terms text j.read.to) ≡ Some (sort.Word word.Def) → ⊥) → Missing text j.read.to (sort.Word word.End) e → TextStuck Kind.class text e
+              pub class-end-lost : {e : ℕ} → (head_sort (terms text j.read) ≡ Some (sort.Word word.Def) → ⊥) → Missing text j.read (sort.Word word.End) e → TextStuck Kind.class text e
               class-end-lost other h =
                   stops at6
                   (either-halts (State.define (Stage.members (class_with (slice text n2 p2) (slice text n4 p4) M.read.methods))) Stop.def _ Stop.end _ _ (λ ρ. refl) refl (not_first _ (keyword word.Def) other) (not_first _ (keyword word.End) h.1))
                   h.0
 
-              module _ {f7 p7 : ℕ} (s7 : Sees text j.read.to (keyword word.End) f7 p7) where
+              module _ {f7 p7 : ℕ} (s7 : Sees text j.read (keyword word.End) f7 p7) where
                 at7 : At text p7 (State.define (Stage.end (class_with (slice text n2 p2) (slice text n4 p4) M.read.methods)))
                 at7 = go_on (State.define (Stage.end (class_with (slice text n2 p2) (slice text n4 p4) M.read.methods))) at6 s7 refl
 
-                pub class-left : (s : Sort) (from to : ℕ) → left text p7 ≡ shown text s from to → TextStuck Kind.class text from
-                class-left s from to e =
-                    let see : Sees text p7 _ _ _ = record { is = e } in
+                pub class-left : {from : ℕ} → (s : Sort) × (to : ℕ) × (left text p7 ≡ shown text s from to) → TextStuck Kind.class text from
+                class-left e =
+                    let see : Sees text p7 _ _ _ = record { is = e.2 } in
                     stops at7
                     (subst (λ r. run r (State.define (Stage.end (class_with (slice text n2 p2) (slice text n4 p4) M.read.methods))) ≡ Outcome.refused r) (sym (terms-see see)) (class-halts _ _ _))
                     (sym (ap (first (length text)) (places-see see)))
 
-                pub class-made : {sp sq : Span} → left text p7 ≡ [] → sp ≡ span_of base n2 p2 → sq ≡ span_of base n4 p4 → n2 ≤ p2 → p2 ≤ length text → n4 ≤ p4 → p4 ≤ length text
-                    → ClassMeasured text base ys rs (record { read = record { name = sp; parent = sq; methods = j.read.count; nodes = j.read.nodes }; within = j.within })
+                pub class-made : {sp sq : Span} {n m : ℕ} → left text p7 ≡ [] → sp ≡ span_of base n2 p2 → sq ≡ span_of base n4 p4 → n2 ≤ p2 → p2 ≤ length text → n4 ≤ p4 → p4 ≤ length text → n ≡ ys.count → m ≡ ss.count
+                    → ClassMeasured text base xs ys rs ss (record { read = record { name = sp; parent = sq; methods = m; nodes = n }; within = j.within })
                 unfolding whole-class
-                class-made end e g h2 l2 h4 l4 =
+                class-made end e g h2 l2 h4 l4 hn hm =
                     record {
                       read = record {
                         class = whole-class;
                         way = at7.way ∙ over-class _ (terms text p7) (ap (map (λ (p : Placed). p.token)) end);
                         noted = ap (λ z. (annotate_text 0 (forget_text (Text.class whole-class)) z).tree) (places-see s1 ∙ ap (λ z. f1 ∷ z) (places-see s2 ∙ ap (λ z. n2 ∷ z) (places-see s3 ∙ ap (λ z. f3 ∷ z) (places-see s4 ∙ ap (λ z. n4 ∷ z) (places-see s5)))))
                             ∙ ap (λ z. Text.class (record { name = slice text n2 p2; parent = slice text n4 p4; methods = z.tree })) M.read.noted;
-                        counted = M.read.counted;
-                        many = M.read.many;
+                        counted = hn ∙ M.read.counted;
+                        many = hm ∙ M.read.many;
                         name = word-seen base n2 p2 e h2 l2;
                         parent = word-seen base n4 p4 g h4 l4;
-                        held = M.read.held;
+                        held = λ room seats mem lies. subst (λ z. MethodsAt mem ys.items.now z ss.items.now M.read.methods) (sym hn) (M.read.held (omega arith) (omega arith) mem lies);
+                        lenders = M.read.lenders;
                       };
                       within = M.within;
                     }

@@ -1,5 +1,5 @@
 -- Each form of expression, from its parts.
-use Rattle.std.proofs.Common.{◌≡◌, ℕ, suc, ◌+◌, ◌<◌, ◌≤◌, Bool, true, false, List, [], ◌∷◌, map, length, get_or, set, Some, sym, refl, ap, ◌∙◌, subst, arith, length-set}
+use Rattle.std.proofs.Common.{◌≡◌, ℕ, suc, ◌+◌, ◌<◌, ◌≤◌, true, List, [], ◌∷◌, map, length, get_or, set, Some, sym, refl, ap, ◌∙◌, subst, arith, length-set}
 use mathlib.Core.Option.{Option, none, some}
 use Rattle.std.proofs.lemmas.List.{get_or-set_same}
 use Rattle.lexer.specs.Token.{Terminal, identifier, keyword, symbol}
@@ -16,11 +16,15 @@ use Rattle.grammar.specs.Machine.{Target, write, target_of, Callee, call, Bracke
 use Rattle.grammar.specs.Role.{role}
 use Rattle.grammar.specs.Following.{First, Calm, Last, NoItem, IdleRole}
 use Rattle.grammar.specs.Notes.{note_of, forget, forget_args, first, annotate}
-use Rattle.grammar.specs.Measure.{nodes, count, names_after, names_after_args}
+use Rattle.grammar.specs.Measure.{nodes, count, names_after}
 use Rattle.grammar.proofs.Steps.{goes, semicolon-goes, dot-goes, instance_of-goes, value-ends, rest-ends, calm-above, argument-begins, name-halts, only-halts, bracket-halts, want-halts}
 use Rattle.nodes.specs.declared.node.Node.{Node}
 use Rattle.nodes.specs.declared.node.Form.{Form}
 use Rattle.nodes.specs.declared.node.Form.TheVariants as form
+use Rattle.stack.specs.declared.Stack.{Stack}
+use Rattle.syntax.specs.declared.table.Table.{Table}
+use Rattle.syntax.specs.declared.read.Variable.{Variable}
+use Rattle.syntax.specs.declared.read.Variable.TheVariants as variable
 use Rattle.syntax.specs.declared.read.Got.{Got}
 use Rattle.syntax.specs.declared.read.Given.{Given}
 use Rattle.syntax.specs.declared.read.Size.{Size}
@@ -33,7 +37,7 @@ use Rattle.syntax.specs.declared.read.Target as declared
 use Rattle.syntax.specs.Parsing.{Ahead, target_token, named, meant, Writes, IsTarget, NoWrite, written_form, learn_target, LearnsTarget, Reads, Kept, Parsed, Refused, Operand, Testing, Tested, Item, Sequence, Arguing, Argued, RefusedArgs, Moves, MovesArgs, Put, With, Closed}
 use Rattle.syntax.specs.Sizes.{around, side_by_side, of_list, Knows, Sized}
 use Rattle.syntax.proofs.Sizes.{around-sized, seq-sized, while-sized, if-sized, none-sized, nothing-sized, more-sized, list-sized, new-sized, invoke-sized}
-use Rattle.syntax.proofs.Nodes.{kept-all, kept_then, kept_put, put-at, put-length, tree-kept, args-kept, args-below, args-set, word_at}
+use Rattle.syntax.proofs.Nodes.{kept-all, kept_then, kept_put, put-at, tree-kept, args-kept, args-below, args-set, word_at}
 use Rattle.syntax.proofs.Reading.{Sees, roomy, never, not_first, no_name, terms-see, places-see, ahead_none, ahead-one, ahead-then, first-noted, noted-then, To, here, on, over, inside, lost, ends, note-if, note-while, note-seq, note-instance_of, note-invoke, note-new, note-set_local, note-set_field, note-first, note-more}
 
 -- a token that has to come did not
@@ -41,26 +45,26 @@ abbrev pub Missing : List ℕ → ℕ → Sort → ℕ → Type 0
 Missing text p s e = (e ≡ first (length text) (places text p)) × (head_sort (terms text p) ≡ Some s → ⊥)
 
 -- an expression whose node was put last
-abbrev pub made : {l : ℕ} {text : List ℕ} {base p : ℕ} {xs ys zs : List Node} {us vs : List Span} {n m n' m' to : ℕ} {x : Node} {size : Size} {g : Got} (tree : Expr ℕ)
-    → Put ys zs n' m' x to size g → Reads l text p to tree → x.place ≡ note_of tree → Kept xs ys n → n ≤ n'
-    → suc n' ≡ n + nodes tree → Sized size tree → ((ns : List (List ℕ)) → Knows text us m ns → Knows text vs m' (names_after ns tree))
-    → ((mem : Memory) → Lies mem text base → Kept ys zs n' → n' < length ys → at zs n' ≡ x → TreeAt mem zs n' tree) → Parsed l text base p xs zs us vs n m g
-made {l} {text} {base} {p} {xs} {ys} {zs} {us} {vs} {n} {m} {n'} {m'} {to} {x} {size} {g} tree put r e k h many sized named held =
-    let len = put-length put in
+abbrev pub made : {l : ℕ} {text : List ℕ} {base p to : ℕ} {xs ys zs : Table Node} {us vs : Stack Span} {x : Node} {size : Size} {g : Got} (tree : Expr ℕ)
+    → Put ys zs x to size g → Reads l text p to tree → x.place ≡ note_of tree → Kept xs ys → xs.count ≤ ys.count
+    → suc ys.count ≡ xs.count + nodes tree → Sized size tree → ((ns : List (List ℕ)) → Knows text us ns → Knows text vs (names_after ns tree))
+    → ((mem : Memory) → Lies mem text base → Kept ys zs → ys.count < length ys.items.now → at zs.items.now ys.count ≡ x → TreeAt mem zs.items.now ys.count tree) → Parsed l text base p xs zs us vs g
+made {l} {text} {base} {p} {to} {xs} {ys} {zs} {us} {vs} {x} {size} {g} tree put r e k h many sized named held =
+    let kept = kept_put put in
     record {
       tree = tree;
       reads = subst (λ q. Reads l text p q tree) (sym put.to_is) r;
       built = record {
         place = put.place ∙ e;
-        kept = kept_then k (kept_put put) h;
+        kept = kept_then k kept h;
         held = λ room mem lies.
-            let lt : n' < length ys = omega (arith, put.counted) in
-            subst (λ i. TreeAt mem zs i tree) (sym put.root) (held mem lies (kept_put put) lt (put-at put lt));
+            let lt : ys.count < length ys.items.now = omega (arith, put.counted, kept.room) in
+            subst (λ i. TreeAt mem zs.items.now i tree) (sym put.root) (held mem lies kept lt (put-at put lt));
       };
       measured = record {
         counted = omega (arith, put.counted, many);
         sized = subst (λ z. Sized z tree) (sym put.size_is) sized;
-        named = λ ns k. subst (λ z. Knows text vs z (names_after ns tree)) (sym put.known) (named ns k);
+        named = named;
       };
     }
 
@@ -72,7 +76,7 @@ module _ {text : List ℕ} {p f q : ℕ} (s : Sees text p (keyword word.If) f q)
   pub condition-lost : {e : ℕ} → Refused 4 text q e → Refused 1 text p e
   condition-lost r = lost Bracket.condition if-begun r 1
 
-  module _ {base : ℕ} {x0 x1 : List Node} {u0 u1 : List Span} {n m : ℕ} {a : Got} (A : Sequence text base q x0 x1 u0 u1 n m a) where
+  module _ {base : ℕ} {x0 x1 : Table Node} {u0 u1 : Stack Span} {a : Got} (A : Sequence text base q x0 x1 u0 u1 a) where
     condition-read : To text p a.to (λ k. State.have (forget A.parsed.tree) (Context.within Bracket.condition k))
     condition-read = inside Bracket.condition if-begun A.parsed.reads
 
@@ -86,7 +90,7 @@ module _ {text : List ℕ} {p f q : ℕ} (s : Sees text p (keyword word.If) f q)
       pub consequent-lost : {e : ℕ} → Refused 4 text ta e → Refused 1 text p e
       consequent-lost r = lost (Bracket.consequent (forget A.parsed.tree)) then-read r 1
 
-      module _ {x2 : List Node} {u2 : List Span} {b : Got} (B : Sequence text base ta x1 x2 u1 u2 a.nodes a.names b) where
+      module _ {x2 : Table Node} {u2 : Stack Span} {b : Got} (B : Sequence text base ta x1 x2 u1 u2 b) where
         consequent-read : To text p b.to (λ k. State.have (forget B.parsed.tree) (Context.within (Bracket.consequent (forget A.parsed.tree)) k))
         consequent-read = inside (Bracket.consequent (forget A.parsed.tree)) then-read B.parsed.reads
 
@@ -101,7 +105,7 @@ module _ {text : List ℕ} {p f q : ℕ} (s : Sees text p (keyword word.If) f q)
           pub alternative-lost : {e : ℕ} → Refused 4 text tb e → Refused 1 text p e
           alternative-lost r = lost (Bracket.alternative (forget A.parsed.tree) (forget B.parsed.tree)) else-read r 1
 
-          module _ {x3 : List Node} {u3 : List Span} {c : Got} (C : Sequence text base tb x2 x3 u2 u3 b.nodes b.names c) where
+          module _ {x3 : Table Node} {u3 : Stack Span} {c : Got} (C : Sequence text base tb x2 x3 u2 u3 c) where
             alternative-read : To text p c.to (λ k. State.have (forget C.parsed.tree) (Context.within (Bracket.alternative (forget A.parsed.tree) (forget B.parsed.tree)) k))
             alternative-read = inside (Bracket.alternative (forget A.parsed.tree) (forget B.parsed.tree)) else-read C.parsed.reads
 
@@ -110,17 +114,17 @@ module _ {text : List ℕ} {p f q : ℕ} (s : Sees text p (keyword word.If) f q)
                 ends alternative-read
                 (λ k. bracket-halts (Bracket.alternative (forget A.parsed.tree) (forget B.parsed.tree)) _ k _ C.calm C.last (not_first _ (keyword word.End) h.1)) h.0 1
 
-            pub if-made : {fc tc : ℕ} {zs : List Node} {size : Size} {g : Got} → Sees text c.to (keyword word.End) fc tc
-                → Put x3 zs c.nodes c.names (record { place = f; form = form.If a.root b.root c.root }) tc size g
-                → Moves text q n a → Moves text ta a.nodes b → Moves text tb b.nodes c → length x1 ≡ length x3 → length x2 ≡ length x3
-                → size ≡ around (side_by_side a.size (side_by_side b.size c.size)) → Parsed 1 text base p x0 zs u0 u3 n m g
-            if-made {fc} {tc} {zs} sc put ma mb mc l1 l2 sz =
+            pub if-made : {fc tc : ℕ} {zs : Table Node} {size : Size} {g : Got} → Sees text c.to (keyword word.End) fc tc
+                → Put x3 zs (record { place = f; form = form.If a.root b.root c.root }) tc size g
+                → Moves text q x0 x1 a → Moves text ta x1 x2 b → Moves text tb x2 x3 c
+                → size ≡ around (side_by_side a.size (side_by_side b.size c.size)) → Parsed 1 text base p x0 zs u0 u3 g
+            if-made {fc} {tc} {zs} sc put ma mb mc sz =
                 let ta' = A.parsed.tree in
                 let tb' = B.parsed.tree in
                 let tc' = C.parsed.tree in
                 let T : Expr ℕ = Expr.if_then_else f ta' tb' tc' in
                 let done : To text p tc (λ k. State.have (forget T) k) = on (λ k. State.have (forget T) k) alternative-read sc (λ k. refl) in
-                let kab : Kept x1 x3 a.nodes = kept_then B.parsed.built.kept C.parsed.built.kept (omega arith) in
+                let kbc : Kept x1 x3 = kept_then B.parsed.built.kept C.parsed.built.kept (omega arith) in
                 made T put
                 (record {
                   low = omega arith;
@@ -130,7 +134,7 @@ module _ {text : List ℕ} {p f q : ℕ} (s : Sees text p (keyword word.If) f q)
                   plain = λ t i. let z : ◌≡◌ {A = ℕ} 0 1 = cc in never z;
                   ahead = done.ahead;
                 })
-                refl (kept_then A.parsed.built.kept kab (omega arith)) (omega arith)
+                refl (kept_then A.parsed.built.kept kbc (omega arith)) (omega arith)
                 (omega (arith, A.parsed.measured.counted, B.parsed.measured.counted, C.parsed.measured.counted))
                 (if-sized f ta' tb' tc' sz A.parsed.measured.sized B.parsed.measured.sized C.parsed.measured.sized)
                 (λ ns k. C.parsed.measured.named _ (B.parsed.measured.named _ (A.parsed.measured.named ns k)))
@@ -140,9 +144,9 @@ module _ {text : List ℕ} {p f q : ℕ} (s : Sees text p (keyword word.If) f q)
                   c.root,
                   is,
                   omega arith,
-                  tree-kept mem ta' a.root (kept_then kab kz (omega arith)) (omega arith) (A.parsed.built.held (omega arith) mem lies),
+                  tree-kept mem ta' a.root (kept_then kbc kz (omega arith)) (omega arith) (A.parsed.built.held (omega (arith, kbc.room)) mem lies),
                   omega arith,
-                  tree-kept mem tb' b.root (kept_then C.parsed.built.kept kz (omega arith)) (omega arith) (B.parsed.built.held (omega arith) mem lies),
+                  tree-kept mem tb' b.root (kept_then C.parsed.built.kept kz (omega arith)) (omega arith) (B.parsed.built.held (omega (arith, C.parsed.built.kept.room)) mem lies),
                   omega arith,
                   tree-kept mem tc' c.root kz (omega arith) (C.parsed.built.held (omega arith) mem lies),
                 ))
@@ -155,7 +159,7 @@ module _ {text : List ℕ} {p f q : ℕ} (s : Sees text p (keyword word.While) f
   pub guard-lost : {e : ℕ} → Refused 4 text q e → Refused 1 text p e
   guard-lost r = lost Bracket.guard while-begun r 1
 
-  module _ {base : ℕ} {x0 x1 : List Node} {u0 u1 : List Span} {n m : ℕ} {a : Got} (A : Sequence text base q x0 x1 u0 u1 n m a) where
+  module _ {base : ℕ} {x0 x1 : Table Node} {u0 u1 : Stack Span} {a : Got} (A : Sequence text base q x0 x1 u0 u1 a) where
     guard-read : To text p a.to (λ k. State.have (forget A.parsed.tree) (Context.within Bracket.guard k))
     guard-read = inside Bracket.guard while-begun A.parsed.reads
 
@@ -169,7 +173,7 @@ module _ {text : List ℕ} {p f q : ℕ} (s : Sees text p (keyword word.While) f
       pub loop-lost : {e : ℕ} → Refused 4 text ta e → Refused 1 text p e
       loop-lost r = lost (Bracket.loop (forget A.parsed.tree)) do-read r 1
 
-      module _ {x2 : List Node} {u2 : List Span} {b : Got} (B : Sequence text base ta x1 x2 u1 u2 a.nodes a.names b) where
+      module _ {x2 : Table Node} {u2 : Stack Span} {b : Got} (B : Sequence text base ta x1 x2 u1 u2 b) where
         loop-read : To text p b.to (λ k. State.have (forget B.parsed.tree) (Context.within (Bracket.loop (forget A.parsed.tree)) k))
         loop-read = inside (Bracket.loop (forget A.parsed.tree)) do-read B.parsed.reads
 
@@ -177,11 +181,11 @@ module _ {text : List ℕ} {p f q : ℕ} (s : Sees text p (keyword word.While) f
         while-end-lost h =
             ends loop-read (λ k. bracket-halts (Bracket.loop (forget A.parsed.tree)) _ k _ B.calm B.last (not_first _ (keyword word.End) h.1)) h.0 1
 
-        pub while-made : {fb tb : ℕ} {zs : List Node} {size : Size} {g : Got} → Sees text b.to (keyword word.End) fb tb
-            → Put x2 zs b.nodes b.names (record { place = f; form = form.While a.root b.root }) tb size g
-            → Moves text q n a → Moves text ta a.nodes b → length x1 ≡ length x2
-            → size ≡ around (side_by_side a.size b.size) → Parsed 1 text base p x0 zs u0 u2 n m g
-        while-made {fb} {tb} {zs} sb put ma mb l1 sz =
+        pub while-made : {fb tb : ℕ} {zs : Table Node} {size : Size} {g : Got} → Sees text b.to (keyword word.End) fb tb
+            → Put x2 zs (record { place = f; form = form.While a.root b.root }) tb size g
+            → Moves text q x0 x1 a → Moves text ta x1 x2 b
+            → size ≡ around (side_by_side a.size b.size) → Parsed 1 text base p x0 zs u0 u2 g
+        while-made {fb} {tb} {zs} sb put ma mb sz =
             let ta' = A.parsed.tree in
             let tb' = B.parsed.tree in
             let T : Expr ℕ = Expr.while_do f ta' tb' in
@@ -203,7 +207,7 @@ module _ {text : List ℕ} {p f q : ℕ} (s : Sees text p (keyword word.While) f
               b.root,
               is,
               omega arith,
-              tree-kept mem ta' a.root (kept_then B.parsed.built.kept kz (omega arith)) (omega arith) (A.parsed.built.held (omega arith) mem lies),
+              tree-kept mem ta' a.root (kept_then B.parsed.built.kept kz (omega arith)) (omega arith) (A.parsed.built.held (omega (arith, B.parsed.built.kept.room)) mem lies),
               omega arith,
               tree-kept mem tb' b.root kz (omega arith) (B.parsed.built.held (omega arith) mem lies),
             ))
@@ -238,9 +242,9 @@ module _ {text : List ℕ} {p f q : ℕ} (s : Sees text p (keyword word.New) f q
       new-args-lost x =
           record { from = x.from; ahead = ahead-then new-open-read.ahead x.ahead; place = x.place; way = λ k h. new-open-read.way k ∙ x.way (Callee.new (slice text from to)) k }
 
-      pub new-made : {base : ℕ} {sp : Span} {x0 x1 zs : List Node} {u0 u1 : List Span} {n m : ℕ} {b : Given} {size : Size} {g : Got} → (B : Argued text base r x0 x1 u0 u1 n m b)
-          → Put x1 zs b.nodes b.names (record { place = f; form = form.New sp b.arguments }) b.to size g
-          → sp ≡ span_of base from to → MovesArgs text r n b → from < to → to ≤ length text → size ≡ around b.size → Parsed 1 text base p x0 zs u0 u1 n m g
+      pub new-made : {base : ℕ} {sp : Span} {x0 x1 zs : Table Node} {u0 u1 : Stack Span} {b : Given} {size : Size} {g : Got} → (B : Argued text base r x0 x1 u0 u1 b)
+          → Put x1 zs (record { place = f; form = form.New sp b.arguments }) b.to size g
+          → sp ≡ span_of base from to → MovesArgs text r x0 x1 b → from < to → to ≤ length text → size ≡ around b.size → Parsed 1 text base p x0 zs u0 u1 g
       new-made {base} {sp} {x0} {x1} {zs} {b = b} B put es mb lt le sz =
           let T : Expr ℕ = Expr.new f (slice text from to) B.args in
           made T put
@@ -260,15 +264,15 @@ module _ {text : List ℕ} {p f q : ℕ} (s : Sees text p (keyword word.New) f q
             is,
             word-seen base from to es (omega arith) le mem lies,
             B.stored.many,
-            args-kept mem B.args b.nodes b.arguments.roots kz (omega arith) (B.stored.held (omega arith) mem lies),
+            args-kept mem B.args _ b.arguments.roots kz (omega arith) (B.stored.held (omega arith) mem lies),
           ))
 
 -- a sequence
-pub seq-made : {text : List ℕ} {base p fa ta : ℕ} {x0 x1 x2 zs : List Node} {u0 u1 u2 : List Span} {n m : ℕ} {a b g : Got} {size : Size}
-    (A : Item text base p x0 x1 u0 u1 n m a) → Sees text a.to (symbol sign.Semicolon) fa ta → (B : Sequence text base ta x1 x2 u1 u2 a.nodes a.names b)
-    → Put x2 zs b.nodes b.names (record { place = a.place; form = form.Seq a.root b.root }) b.to size g
-    → Moves text p n a → Moves text ta a.nodes b → length x1 ≡ length x2 → size ≡ side_by_side a.size b.size → Sequence text base p x0 zs u0 u2 n m g
-seq-made {text} {base} {p} {fa} {ta} {x0} {x1} {x2} {zs} {a = a} {b = b} A sa B put ma mb l1 sz =
+pub seq-made : {text : List ℕ} {base p fa ta : ℕ} {x0 x1 x2 zs : Table Node} {u0 u1 u2 : Stack Span} {a b g : Got} {size : Size}
+    (A : Item text base p x0 x1 u0 u1 a) → Sees text a.to (symbol sign.Semicolon) fa ta → (B : Sequence text base ta x1 x2 u1 u2 b)
+    → Put x2 zs (record { place = a.place; form = form.Seq a.root b.root }) b.to size g
+    → Moves text p x0 x1 a → Moves text ta x1 x2 b → size ≡ side_by_side a.size b.size → Sequence text base p x0 zs u0 u2 g
+seq-made {text} {base} {p} {fa} {ta} {x0} {x1} {x2} {zs} {a = a} {b = b} A sa B put ma mb sz =
     let ea = A.parsed.tree in
     let eb = B.parsed.tree in
     let T : Expr ℕ = Expr.seq (note_of ea) ea eb in
@@ -290,7 +294,7 @@ seq-made {text} {base} {p} {fa} {ta} {x0} {x1} {x2} {zs} {a = a} {b = b} A sa B 
             b.root,
             is ∙ ap (λ z. record { place = z; form = form.Seq a.root b.root }) A.parsed.built.place,
             omega arith,
-            tree-kept mem ea a.root (kept_then B.parsed.built.kept kz (omega arith)) (omega arith) (A.parsed.built.held (omega arith) mem lies),
+            tree-kept mem ea a.root (kept_then B.parsed.built.kept kz (omega arith)) (omega arith) (A.parsed.built.held (omega (arith, B.parsed.built.kept.room)) mem lies),
             omega arith,
             tree-kept mem eb b.root kz (omega arith) (B.parsed.built.held (omega arith) mem lies),
           ));
@@ -298,8 +302,8 @@ seq-made {text} {base} {p} {fa} {ta} {x0} {x1} {x2} {zs} {a = a} {b = b} A sa B 
       last = subst (λ z. Last (terms text z)) (sym put.to_is) B.last;
     }
 
-pub seq-lost : {text : List ℕ} {base p fa ta e : ℕ} {x0 x1 : List Node} {u0 u1 : List Span} {n m : ℕ} {a : Got}
-    (A : Item text base p x0 x1 u0 u1 n m a) → Sees text a.to (symbol sign.Semicolon) fa ta → Refused 4 text ta e → Refused 4 text p e
+pub seq-lost : {text : List ℕ} {base p fa ta e : ℕ} {x0 x1 : Table Node} {u0 u1 : Stack Span} {a : Got}
+    (A : Item text base p x0 x1 u0 u1 a) → Sees text a.to (symbol sign.Semicolon) fa ta → Refused 4 text ta e → Refused 4 text p e
 seq-lost {text} {ta = ta} A sa r =
     let ea = A.parsed.tree in
     record {
@@ -310,7 +314,7 @@ seq-lost {text} {ta = ta} A sa r =
           ∙ r.way (Context.rest (forget ea) k) (omega arith);
     }
 
-abbrev pub wider : {l : ℕ} {text : List ℕ} {base p : ℕ} {xs ys : List Node} {us vs : List Span} {n m : ℕ} {g : Got} (l' : ℕ) → l ≤ l' → l ≤ 3 → Parsed l text base p xs ys us vs n m g → Parsed l' text base p xs ys us vs n m g
+abbrev pub wider : {l : ℕ} {text : List ℕ} {base p : ℕ} {xs ys : Table Node} {us vs : Stack Span} {g : Got} (l' : ℕ) → l ≤ l' → l ≤ 3 → Parsed l text base p xs ys us vs g → Parsed l' text base p xs ys us vs g
 wider l' h i P =
     let r = P.reads in
     record {
@@ -320,7 +324,7 @@ wider l' h i P =
       measured = P.measured;
     }
 
-pub seq-item : {text : List ℕ} {base p : ℕ} {xs ys : List Node} {us vs : List Span} {n m : ℕ} {g : Got} → Item text base p xs ys us vs n m g → (head_sort (terms text g.to) ≡ Some (sort.Sign sign.Semicolon) → ⊥) → Sequence text base p xs ys us vs n m g
+pub seq-item : {text : List ℕ} {base p : ℕ} {xs ys : Table Node} {us vs : Stack Span} {g : Got} → Item text base p xs ys us vs g → (head_sort (terms text g.to) ≡ Some (sort.Sign sign.Semicolon) → ⊥) → Sequence text base p xs ys us vs g
 seq-item i h = record { parsed = wider 4 (omega arith) (omega arith) i.parsed; calm = i.calm; last = not_first _ (symbol sign.Semicolon) h }
 
 -- a write
@@ -354,9 +358,9 @@ write-place : (t : Target) (f : ℕ) (e : Expr ℕ) → f ≡ note_of (write_of 
 write-place (Target.local x) f e = refl
 write-place (Target.field x) f e = refl
 
-write-held : (b : Bool) (x : List ℕ) (mem : Memory) (zs : List Node) (i f : ℕ) (s : Span) (j : ℕ) (e : Expr ℕ) → at zs i ≡ record { place = f; form = written_form b s j } → WordAt mem s x → j < i → TreeAt mem zs j e → TreeAt mem zs i (write_of f (named b x) e)
-write-held false x mem zs i f s j e is w h t = (s, j, is, w, h, t)
-write-held true x mem zs i f s j e is w h t = (s, j, is, w, h, t)
+write-held : (b : Variable) (x : List ℕ) (mem : Memory) (zs : List Node) (i f : ℕ) (s : Span) (j : ℕ) (e : Expr ℕ) → at zs i ≡ record { place = f; form = written_form b s j } → WordAt mem s x → j < i → TreeAt mem zs j e → TreeAt mem zs i (write_of f (named b x) e)
+write-held variable.Local x mem zs i f s j e is w h t = (s, j, is, w, h, t)
+write-held variable.Field x mem zs i f s j e is w h t = (s, j, is, w, h, t)
 
 write-nodes : (t : Target) (f : ℕ) (e : Expr ℕ) → nodes (write_of f t e) ≡ suc (nodes e)
 write-nodes (Target.local x) f e = refl
@@ -400,10 +404,10 @@ module _ {text : List ℕ} {p : ℕ} {t : declared.Target} (w : Writes text p t)
   set-lost r =
       record { from = r.from; ahead = ahead-then value-wanted.ahead r.ahead; place = r.place; way = λ k h. value-wanted.way k ∙ r.way (Context.value (meant text t) k) (omega arith) }
 
-  pub set-made : {base : ℕ} {x0 x1 zs : List Node} {u0 u1 u2 : List Span} {n m m' : ℕ} {e g : Got} {size : Size} {x : Form} → (E : Item text base t.value x0 x1 u1 u2 n m e)
-      → Put x1 zs e.nodes e.names (record { place = t.from; form = x }) e.to size g
-      → x ≡ written_form t.field (span_of base t.from t.to) e.root → Moves text t.value n e → t.from < t.to → t.to ≤ length text
-      → size ≡ around e.size → LearnsTarget text u0 u1 m' (meant text t) m → Item text base p x0 zs u0 u2 n m' g
+  pub set-made : {base : ℕ} {x0 x1 zs : Table Node} {u0 u1 u2 : Stack Span} {e g : Got} {size : Size} {x : Form} → (E : Item text base t.value x0 x1 u1 u2 e)
+      → Put x1 zs (record { place = t.from; form = x }) e.to size g
+      → x ≡ written_form t.variable (span_of base t.from t.to) e.root → Moves text t.value x0 x1 e → t.from < t.to → t.to ≤ length text
+      → size ≡ around e.size → LearnsTarget text u0 u1 (meant text t) → Item text base p x0 zs u0 u2 g
   set-made {base} {x0} {x1} {zs} {e = e} E put ef me lt le sz ln =
       let x = E.parsed.tree in
       let T : Expr ℕ = write_of t.from (meant text t) x in
@@ -420,9 +424,9 @@ module _ {text : List ℕ} {p : ℕ} {t : declared.Target} (w : Writes text p t)
             })
             (write-place (meant text t) t.from x) E.parsed.built.kept (omega arith)
             (omega (arith, E.parsed.measured.counted, write-nodes (meant text t) t.from x)) (write-sized (meant text t) t.from x sz E.parsed.measured.sized)
-            (λ ns k. subst (Knows text _ _) (sym (write-names (meant text t) t.from ns x)) (E.parsed.measured.named _ (ln.learns ns k)))
+            (λ ns k. subst (Knows text _) (sym (write-names (meant text t) t.from ns x)) (E.parsed.measured.named _ (ln.learns ns k)))
             (λ mem lies kz h is.
-            write-held t.field (slice text t.from t.to) mem zs e.nodes t.from (span_of base t.from t.to) e.root x (is ∙ ap (λ z. record { place = t.from; form = z }) ef) (word-seen base t.from t.to refl (omega arith) le mem lies) me.root
+            write-held t.variable (slice text t.from t.to) mem zs.items.now _ t.from (span_of base t.from t.to) e.root x (is ∙ ap (λ z. record { place = t.from; form = z }) ef) (word-seen base t.from t.to refl (omega arith) le mem lies) me.root
             (tree-kept mem x e.root kz me.root (E.parsed.built.held (omega arith) mem lies)));
         calm = calm-above (forget T) _ (omega (arith, lev)) (write-no-target (meant text t) t.from x);
       }
@@ -439,7 +443,7 @@ no_target e r s plain h f = go (target_of e) refl
     go none q = refl
     go (some t) q = absurd (subst NoWrite (plain t q) h (is-target t) f)
 
-pub item-test : {text : List ℕ} {base p : ℕ} {xs ys : List Node} {us vs : List Span} {n m : ℕ} {g : Got} → Tested text base p xs ys us vs n m g → NoWrite (terms text p) → Item text base p xs ys us vs n m g
+pub item-test : {text : List ℕ} {base p : ℕ} {xs ys : Table Node} {us vs : Stack Span} {g : Got} → Tested text base p xs ys us vs g → NoWrite (terms text p) → Item text base p xs ys us vs g
 item-test {text} {p = p} {g = g} t h =
     record {
       parsed = wider 3 (omega arith) (omega arith) t.testing.parsed;
@@ -451,7 +455,7 @@ item-test {text} {p = p} {g = g} t h =
     }
 
 -- a test of an operand's class
-module _ {text : List ℕ} {base p : ℕ} {x0 x1 : List Node} {u0 u1 : List Span} {n m : ℕ} {a : Got} (A : Parsed 2 text base p x0 x1 u0 u1 n m a)
+module _ {text : List ℕ} {base p : ℕ} {x0 x1 : Table Node} {u0 u1 : Stack Span} {a : Got} (A : Parsed 2 text base p x0 x1 u0 u1 a)
     {fa ta : ℕ} (sa : Sees text a.to (keyword word.InstanceOf) fa ta) where
   tested-read : To text p ta (λ k. State.tested (forget A.tree) k)
   tested-read =
@@ -464,9 +468,9 @@ module _ {text : List ℕ} {base p : ℕ} {x0 x1 : List Node} {u0 u1 : List Span
   pub test-class-lost : {e : ℕ} → Missing text ta sort.Name e → Refused 2 text p e
   test-class-lost h = ends tested-read (λ k. name-halts (State.tested (forget A.tree) k) (λ c. State.have (Expr.instance_of tt (forget A.tree) c) k) _ (λ ρ. refl) refl (no_name _ h.1)) h.0 2
 
-  pub test-made : {from to : ℕ} {sp : Span} {zs : List Node} {g : Got} {size : Size} → Sees text ta (identifier (slice text from to)) from to
-      → Put x1 zs a.nodes a.names (record { place = a.place; form = form.InstanceOf a.root sp }) to size g
-      → sp ≡ span_of base from to → Moves text p n a → from < to → to ≤ length text → size ≡ around a.size → Testing text base p x0 zs u0 u1 n m g
+  pub test-made : {from to : ℕ} {sp : Span} {zs : Table Node} {g : Got} {size : Size} → Sees text ta (identifier (slice text from to)) from to
+      → Put x1 zs (record { place = a.place; form = form.InstanceOf a.root sp }) to size g
+      → sp ≡ span_of base from to → Moves text p x0 x1 a → from < to → to ≤ length text → size ≡ around a.size → Testing text base p x0 zs u0 u1 g
   test-made {from} {to} {sp} sn put es ma lt le sz =
       let x = A.tree in
       let T : Expr ℕ = Expr.instance_of (note_of x) x (slice text from to) in
@@ -497,11 +501,11 @@ module _ {text : List ℕ} {base p : ℕ} {x0 x1 : List Node} {u0 u1 : List Span
       }
 
 -- over the loop of tests
-pub testing : {text : List ℕ} {base p : ℕ} {x0 x1 : List Node} {u0 u1 : List Span} {n m : ℕ} {g : Got} → Operand text base p x0 x1 u0 u1 n m g → Testing text base p x0 x1 u0 u1 n m g
+pub testing : {text : List ℕ} {base p : ℕ} {x0 x1 : Table Node} {u0 u1 : Stack Span} {g : Got} → Operand text base p x0 x1 u0 u1 g → Testing text base p x0 x1 u0 u1 g
 testing A = record { parsed = wider 2 (omega arith) (omega arith) A.parsed; dot = λ f. absurd (A.no-dot f) }
 
 -- a call, token by token
-module _ {text : List ℕ} {base p : ℕ} {x0 x1 : List Node} {u0 u1 : List Span} {n m : ℕ} {a : Got} (A : Parsed 1 text base p x0 x1 u0 u1 n m a)
+module _ {text : List ℕ} {base p : ℕ} {x0 x1 : Table Node} {u0 u1 : Stack Span} {a : Got} (A : Parsed 1 text base p x0 x1 u0 u1 a)
     {fa ta : ℕ} (sa : Sees text a.to (symbol sign.Dot) fa ta) where
   dot-read : To text p ta (λ k. State.dotted (forget A.tree) k)
   dot-read =
@@ -534,12 +538,12 @@ module _ {text : List ℕ} {base p : ℕ} {x0 x1 : List Node} {u0 u1 : List Span
       call-args-lost x =
           record { from = x.from; ahead = ahead-then call-open-read.ahead x.ahead; place = x.place; way = λ k h. call-open-read.way k ∙ x.way callee k }
 
-      pub call-made : {sp : Span} {x2 zs : List Node} {u2 : List Span} {b : Given} {size : Size} {g : Got} → (B : Argued text base r x1 x2 u1 u2 a.nodes a.names b)
-          → Put x2 zs b.nodes b.names (record { place = a.place; form = form.Invoke a.root sp b.arguments }) b.to size g
-          → sp ≡ span_of base from to → Moves text p n a → MovesArgs text r a.nodes b → from < to → to ≤ length text → length x1 ≡ length x2
-          → size ≡ around (side_by_side a.size b.size) → Parsed 1 text base p x0 zs u0 u2 n m g
+      pub call-made : {sp : Span} {x2 zs : Table Node} {u2 : Stack Span} {b : Given} {size : Size} {g : Got} → (B : Argued text base r x1 x2 u1 u2 b)
+          → Put x2 zs (record { place = a.place; form = form.Invoke a.root sp b.arguments }) b.to size g
+          → sp ≡ span_of base from to → Moves text p x0 x1 a → MovesArgs text r x1 x2 b → from < to → to ≤ length text
+          → size ≡ around (side_by_side a.size b.size) → Parsed 1 text base p x0 zs u0 u2 g
       unfolding callee
-      call-made {sp} {x2} {zs} {b = b} B put es ma mb lt le l1 sz =
+      call-made {sp} {x2} {zs} {b = b} B put es ma mb lt le sz =
           let x = A.tree in
           let T : Expr ℕ = Expr.invoke (note_of x) x (slice text from to) B.args in
           made T put
@@ -561,16 +565,16 @@ module _ {text : List ℕ} {base p : ℕ} {x0 x1 : List Node} {u0 u1 : List Span
             is ∙ ap (λ z. record { place = z; form = form.Invoke a.root sp b.arguments }) A.built.place,
             word-seen base from to es (omega arith) le mem lies,
             omega arith,
-            tree-kept mem x a.root (kept_then B.stored.kept kz (omega arith)) ma.root (A.built.held (omega arith) mem lies),
+            tree-kept mem x a.root (kept_then B.stored.kept kz (omega arith)) ma.root (A.built.held (omega (arith, B.stored.kept.room)) mem lies),
             B.stored.many,
-            args-kept mem B.args b.nodes b.arguments.roots kz (omega arith) (B.stored.held (omega arith) mem lies),
+            args-kept mem B.args _ b.arguments.roots kz (omega arith) (B.stored.held (omega arith) mem lies),
           ))
 
 -- no arguments
-pub none_made : {text : List ℕ} {base p f q : ℕ} {xs : List Node} {us : List Span} {n m : ℕ} {a g : Given} → Sees text p (symbol sign.CloseParen) f q
-    → a.arguments ≡ record { count = 0; roots = 0 ∷ 0 ∷ 0 ∷ 0 ∷ [] } → Closed a q g → a.nodes ≡ n → a.names ≡ m → a.size ≡ record { depth = 0; small = true } → Argued text base p xs xs us us n m g
-none_made {text} {base} {p} {f} {q} {xs} {us} {n} {m} {a} {g} s e c hn hm hs =
-    let is = c.same ∙ e in
+pub none_made : {text : List ℕ} {base p f q : ℕ} {xs : Table Node} {us : Stack Span} {a g : Given} → Sees text p (symbol sign.CloseParen) f q
+    → a ≡ record { to = p; arguments = record { count = 0; roots = 0 ∷ 0 ∷ 0 ∷ 0 ∷ [] }; size = record { depth = 0; small = true } } → Closed a q g → Argued text base p xs xs us us g
+none_made {text} {base} {p} {f} {q} {xs} {us} {a} {g} s e c =
+    let is = c.same ∙ ap (λ z. z.arguments) e in
     let place = c.to_is in
     record {
       args = Args.none;
@@ -579,22 +583,18 @@ none_made {text} {base} {p} {f} {q} {xs} {us} {n} {m} {a} {g} s e c hn hm hs =
       closed = f;
       noted = ap (λ z. record { tree = Args.none; rest = z }) (places-see s ∙ ap (λ z. f ∷ places text z) (sym place));
       ahead = subst (Ahead text p) (sym place) (ahead-one s);
-      stored = record { many = ap (λ z. z.count) is; four = ap (λ z. length z.roots) is; kept = kept-all xs n; held = λ r mem lies. tt };
-      measured = record {
-        counted = c.counted ∙ hn ∙ sym (omega arith);
-        sized = none-sized hs (c.size_is ∙ ap (λ z. of_list z.count a.size) e);
-        named = λ ns k. subst (λ z. Knows text us z ns) (sym (c.known ∙ hm)) k;
-      };
+      stored = record { many = ap (λ z. z.count) is; four = ap (λ z. length z.roots) is; kept = kept-all xs; held = λ r mem lies. tt };
+      measured = record { counted = omega arith; sized = none-sized (ap (λ z. z.size) e) (c.size_is ∙ ap (λ z. of_list z.arguments.count a.size) e); named = λ ns k. k };
     }
 
 -- the first argument
-pub first_made : {text : List ℕ} {base p : ℕ} {x0 x1 : List Node} {u0 u1 : List Span} {n m : ℕ} {a g : Given} {e : Got} → (head_sort (terms text p) ≡ Some (sort.Sign sign.CloseParen) → ⊥)
-    → a.arguments ≡ record { count = 0; roots = 0 ∷ 0 ∷ 0 ∷ 0 ∷ [] } → (E : Sequence text base p x0 x1 u0 u1 n m e) → With a e g → Moves text p n e → a.size ≡ record { depth = 0; small = true } → Arguing text base p x0 x1 u0 u1 n m g
-first_made {text} {base} {p} {x0} {x1} {u1 = u1} {a = a} {g = g} {e = e} other is E w me hs =
+pub first_made : {text : List ℕ} {base p : ℕ} {x0 x1 : Table Node} {u0 u1 : Stack Span} {a g : Given} {e : Got} → (head_sort (terms text p) ≡ Some (sort.Sign sign.CloseParen) → ⊥)
+    → a ≡ record { to = p; arguments = record { count = 0; roots = 0 ∷ 0 ∷ 0 ∷ 0 ∷ [] }; size = record { depth = 0; small = true } } → (E : Sequence text base p x0 x1 u0 u1 e) → With a e g → Moves text p x0 x1 e → Arguing text base p x0 x1 u0 u1 g
+first_made {text} {base} {p} {x0} {x1} {u1 = u1} {a = a} {g = g} {e = e} other is E w me =
     let x = E.parsed.tree in
     let place = w.to_is in
-    let roots : g.arguments.roots ≡ e.root ∷ 0 ∷ 0 ∷ 0 ∷ [] = w.roots ∙ ap (λ z. set z.roots z.count e.root) is in
-    let zero-count : a.arguments.count ≡ 0 = ap (λ z. z.count) is in
+    let roots : g.arguments.roots ≡ e.root ∷ 0 ∷ 0 ∷ 0 ∷ [] = w.roots ∙ ap (λ z. set z.arguments.roots z.arguments.count e.root) is in
+    let zero-count : a.arguments.count ≡ 0 = ap (λ z. z.arguments.count) is in
     record {
       before = Args.none;
       tree = x;
@@ -610,14 +610,13 @@ first_made {text} {base} {p} {x0} {x1} {u1 = u1} {a = a} {g = g} {e = e} other i
         kept = E.parsed.built.kept;
         held = λ r mem lies. (
           tt,
-          λ _. subst (λ z. (get_or z 0 0 < g.nodes) × TreeAt mem x1 (get_or z 0 0) x) (sym roots)
-              (omega (arith, w.counted), E.parsed.built.held (omega (arith, w.counted)) mem lies),
+          λ _. subst (λ z. (get_or z 0 0 < x1.count) × TreeAt mem x1.items.now (get_or z 0 0) x) (sym roots) (me.root, E.parsed.built.held r mem lies),
         );
       };
       measured = record {
-        counted = omega (arith, w.counted, E.parsed.measured.counted);
-        sized = more-sized Args.none x w.size_is (nothing-sized hs) E.parsed.measured.sized;
-        named = λ ns k. subst (λ z. Knows text u1 z (names_after ns x)) (sym w.known) (E.parsed.measured.named ns k);
+        counted = omega (arith, E.parsed.measured.counted);
+        sized = more-sized Args.none x w.size_is (nothing-sized (ap (λ z. z.size) is)) E.parsed.measured.sized;
+        named = E.parsed.measured.named;
       };
     }
 
@@ -630,7 +629,7 @@ first-lost other r =
       way = λ h k. argument-begins h k _ (not_first _ (symbol sign.CloseParen) other) ∙ r.way (Context.within (Bracket.argument h Args.none) k) (omega arith);
     }
 
-module _ {text : List ℕ} {base p : ℕ} {x0 x1 : List Node} {u0 u1 : List Span} {n m : ℕ} {a : Given} (A : Arguing text base p x0 x1 u0 u1 n m a)
+module _ {text : List ℕ} {base p : ℕ} {x0 x1 : Table Node} {u0 u1 : Stack Span} {a : Given} (A : Arguing text base p x0 x1 u0 u1 a)
     {fa ta : ℕ} (sa : Sees text a.to (symbol sign.Comma) fa ta) where
   comma-read : (h : Callee) (k : Context) → run (terms text p) (State.opened h k) ≡ run (terms text ta) (State.want (Context.within (Bracket.argument h (forget_args (Args.more A.before A.tree))) k))
   comma-read h k =
@@ -647,9 +646,8 @@ module _ {text : List ℕ} {base p : ℕ} {x0 x1 : List Node} {u0 u1 : List Span
         way = λ h k. comma-read h k ∙ r.way (Context.within (Bracket.argument h (forget_args (Args.more A.before A.tree))) k) (omega arith);
       }
 
-  pub next-made : {x2 : List Node} {u2 : List Span} {e : Got} {g : Given} → (E : Sequence text base ta x1 x2 u1 u2 a.nodes a.names e) → With a e g → Moves text ta a.nodes e → n ≤ a.nodes
-      → length x1 ≡ length x2 → Arguing text base p x0 x2 u0 u2 n m g
-  next-made {x2} {u2} {e} {g} E w me le l1 =
+  pub next-made : {x2 : Table Node} {u2 : Stack Span} {e : Got} {g : Given} → (E : Sequence text base ta x1 x2 u1 u2 e) → With a e g → Moves text ta x1 x2 e → x0.count ≤ x1.count → Arguing text base p x0 x2 u0 u2 g
+  next-made {x2} {u2} {e} {g} E w me le =
       let x = E.parsed.tree in
       let es = Args.more A.before A.tree in
       let place = w.to_is in
@@ -669,29 +667,28 @@ module _ {text : List ℕ} {base p : ℕ} {x0 x1 : List Node} {u0 u1 : List Span
           four = four;
           kept = kept_then A.stored.kept E.parsed.built.kept le;
           held = λ r mem lies.
-              let room = w.counted in
-              let old : ArgsAt mem x2 g.nodes a.arguments.roots es =
-              args-below mem x2 es a.nodes g.nodes a.arguments.roots (omega arith)
-              (args-kept mem es a.nodes a.arguments.roots E.parsed.built.kept (omega arith) (A.stored.held (omega arith) mem lies)) in
-              let now : ArgsAt mem x2 g.nodes g.arguments.roots es =
-              subst (λ z. ArgsAt mem x2 g.nodes z es) (sym w.roots) (args-set mem x2 es g.nodes a.arguments.roots a.arguments.count e.root (omega (arith, A.stored.many)) old) in (
+              let old : ArgsAt mem x2.items.now x2.count a.arguments.roots es =
+              args-below mem x2.items.now es x1.count x2.count a.arguments.roots (omega arith)
+              (args-kept mem es x1.count a.arguments.roots E.parsed.built.kept (omega arith) (A.stored.held (omega (arith, E.parsed.built.kept.room)) mem lies)) in
+              let now : ArgsAt mem x2.items.now x2.count g.arguments.roots es =
+              subst (λ z. ArgsAt mem x2.items.now x2.count z es) (sym w.roots) (args-set mem x2.items.now es x2.count a.arguments.roots a.arguments.count e.root (omega (arith, A.stored.many)) old) in (
                 now,
                 λ q.
                     let at-root : e.root ≡ get_or g.arguments.roots (count es) 0 =
                     sym (ap (λ z. get_or z (count es) 0) w.roots ∙ ap (λ z. get_or (set a.arguments.roots z e.root) (count es) 0) A.stored.many
                     ∙ get_or-set_same a.arguments.roots (count es) e.root 0 (omega (arith, A.stored.four))) in
-                    subst (λ z. (z < g.nodes) × TreeAt mem x2 z x) at-root (omega arith, E.parsed.built.held (omega arith) mem lies),
+                    subst (λ z. (z < x2.count) × TreeAt mem x2.items.now z x) at-root (me.root, E.parsed.built.held r mem lies),
               );
         };
         measured = record {
-          counted = omega (arith, w.counted, E.parsed.measured.counted, A.measured.counted);
+          counted = omega (arith, E.parsed.measured.counted, A.measured.counted);
           sized = more-sized es x w.size_is A.measured.sized E.parsed.measured.sized;
-          named = λ ns k. subst (λ z. Knows text u2 z (names_after (names_after_args ns es) x)) (sym w.known) (E.parsed.measured.named _ (A.measured.named ns k));
+          named = λ ns k. E.parsed.measured.named _ (A.measured.named ns k);
         };
       }
 
 -- the `)` behind arguments
-pub close-lost : {text : List ℕ} {base p e : ℕ} {x0 x1 : List Node} {u0 u1 : List Span} {n m : ℕ} {a : Given} → (A : Arguing text base p x0 x1 u0 u1 n m a)
+pub close-lost : {text : List ℕ} {base p e : ℕ} {x0 x1 : Table Node} {u0 u1 : Stack Span} {a : Given} → (A : Arguing text base p x0 x1 u0 u1 a)
     → (head_sort (terms text a.to) ≡ Some (sort.Sign sign.Comma) → ⊥) → Missing text a.to (sort.Sign sign.CloseParen) e → RefusedArgs text p e
 close-lost {a = a} A other h =
     record {
@@ -701,8 +698,8 @@ close-lost {a = a} A other h =
       way = λ f k. A.way f k ∙ bracket-halts (Bracket.argument f (forget_args A.before)) _ k _ A.calm A.last (not_first _ (symbol sign.CloseParen) h.1, not_first _ (symbol sign.Comma) other);
     }
 
-pub args-made : {text : List ℕ} {base p fc tc : ℕ} {x0 x1 : List Node} {u0 u1 : List Span} {n m : ℕ} {a g : Given} → (A : Arguing text base p x0 x1 u0 u1 n m a) → Sees text a.to (symbol sign.CloseParen) fc tc
-    → Closed a tc g → Argued text base p x0 x1 u0 u1 n m g
+pub args-made : {text : List ℕ} {base p fc tc : ℕ} {x0 x1 : Table Node} {u0 u1 : Stack Span} {a g : Given} → (A : Arguing text base p x0 x1 u0 u1 a) → Sees text a.to (symbol sign.CloseParen) fc tc
+    → Closed a tc g → Argued text base p x0 x1 u0 u1 g
 args-made {text} {base} {p} {fc} {tc} {x0} {x1} {u1 = u1} {a = a} {g = g} A s c =
     let es = Args.more A.before A.tree in
     let place = c.to_is in
@@ -719,13 +716,12 @@ args-made {text} {base} {p} {fc} {tc} {x0} {x1} {u1 = u1} {a = a} {g = g} A s c 
         four = ap (λ z. length z.roots) c.same ∙ A.stored.four;
         kept = A.stored.kept;
         held = λ r mem lies.
-            subst (λ z. ArgsAt mem x1 g.nodes z es) (ap (λ z. z.roots) (sym c.same))
-            (subst (λ z. ArgsAt mem x1 z a.arguments.roots es) (sym c.counted) (A.stored.held (omega (arith, c.counted)) mem lies));
+            subst (λ z. ArgsAt mem x1.items.now x1.count z es) (ap (λ z. z.roots) (sym c.same)) (A.stored.held r mem lies);
       };
       measured = record {
-        counted = c.counted ∙ A.measured.counted;
+        counted = A.measured.counted;
         sized = list-sized a.arguments.count es c.size_is A.stored.many A.measured.sized;
-        named = λ ns k. subst (λ z. Knows text u1 z (names_after_args ns es)) (sym c.known) (A.measured.named ns k);
+        named = A.measured.named;
       };
     }
 
@@ -733,11 +729,11 @@ pub some_same : {a b : Target} → ◌≡◌ {A = Option Target} (some a) (some 
 some_same e = cc
 
 -- an expression of one token
-pub leaf-made : {text : List ℕ} {base p f q : ℕ} {xs zs : List Node} {us vs : List Span} {n m m' : ℕ} {x : Form} {size : Size} {g : Got} {t : Terminal} (T : Expr ℕ) → Sees text p t f q
+pub leaf-made : {text : List ℕ} {base p f q : ℕ} {xs zs : Table Node} {us vs : Stack Span} {x : Form} {size : Size} {g : Got} {t : Terminal} (T : Expr ℕ) → Sees text p t f q
     → level (forget T) ≤ 1 → ((k : Context) → step (State.want k) t ≡ some (State.have (forget T) k)) → ((ns : List ℕ) → annotate 0 (forget T) (f ∷ ns) ≡ record { tree = T; rest = ns })
-    → ((u : Target) → target_of (forget T) ≡ some u → t ≡ target_token u) → f ≡ note_of T → Put xs zs n m' (record { place = f; form = x }) q size g
-    → nodes T ≡ 1 → Sized size T → ((ns : List (List ℕ)) → Knows text us m ns → Knows text vs m' (names_after ns T))
-    → ((mem : Memory) → Lies mem text base → at zs n ≡ record { place = f; form = x } → TreeAt mem zs n T) → Parsed 1 text base p xs zs us vs n m g
+    → ((u : Target) → target_of (forget T) ≡ some u → t ≡ target_token u) → f ≡ note_of T → Put xs zs (record { place = f; form = x }) q size g
+    → nodes T ≡ 1 → Sized size T → ((ns : List (List ℕ)) → Knows text us ns → Knows text vs (names_after ns T))
+    → ((mem : Memory) → Lies mem text base → at zs.items.now xs.count ≡ record { place = f; form = x } → TreeAt mem zs.items.now xs.count T) → Parsed 1 text base p xs zs us vs g
 leaf-made {text} {base} {p} {f} {q} {xs} T s low go noted plain place put one sized named held =
     let done = on (λ k. State.have (forget T) k) here s go in
     made T put
@@ -748,7 +744,7 @@ leaf-made {text} {base} {p} {f} {q} {xs} T s low go noted plain place put one si
       plain = λ u i. terms-see s ∙ ap (λ z. z ∷ terms text q) (plain u i);
       ahead = done.ahead;
     })
-    place (kept-all xs _) (omega arith) (omega (arith, one)) sized named (λ mem lies kz lt is. held mem lies is)
+    place (kept-all xs) (omega arith) (omega (arith, one)) sized named (λ mem lies kz lt is. held mem lies is)
 
 -- where no expression begins
 pub end-lost : {text : List ℕ} {p : ℕ} → left text p ≡ [] → Refused 1 text p (length text)

@@ -1,5 +1,5 @@
 -- Parameters, methods and classes, from their parts.
-use Rattle.std.proofs.Common.{◌≡◌, ℕ, ◌+◌, ◌-◌, ◌*◌, ◌<◌, ◌≤◌, Bool, true, ◌&&◌, ◌≢◌, List, [], ◌∷◌, ◌++◌, map, length, get_or, drop, set, Some, Decides, sym, refl, ap, ◌∙◌, subst, ap₂, ⊎_elim, arith}
+use Rattle.std.proofs.Common.{◌≡◌, ℕ, ◌+◌, ◌-◌, ◌*◌, ◌<◌, ◌≤◌, Bool, true, ◌&&◌, ◌≢◌, List, [], ◌∷◌, ◌++◌, map, length, get_or, drop, set, Some, Decides, sym, refl, ap, ◌∙◌, subst, ⊎_elim, arith}
 use mathlib.Core.Option.{some}
 use Rattle.std.proofs.lemmas.List.{drop-drop, length-append, length-set, get_or-set_same, get_or-set_other, get_or_append_left, get_or_push, drop-map}
 use Rattle.std.proofs.lemmas.Bool.{cases_lt}
@@ -23,7 +23,9 @@ use Rattle.nodes.specs.declared.node.Parameters.{Parameters}
 use Rattle.syntax.specs.declared.read.Listed.{Listed}
 use Rattle.nodes.specs.declared.node.Method.{Method}
 use Rattle.syntax.specs.declared.read.Defined.{Defined}
-use Rattle.syntax.specs.declared.read.Members.{Members}
+use Rattle.stack.specs.declared.Stack.{Stack}
+use Rattle.stack.specs.Held.{held}
+use Rattle.syntax.specs.declared.table.Table.{Table}
 use Rattle.syntax.specs.declared.read.Judged.{Judged}
 use Rattle.syntax.specs.declared.sight.Sort.TheVariants as sort
 use Rattle.syntax.specs.Left.{left, terms, places}
@@ -31,11 +33,11 @@ use Rattle.syntax.specs.Sight.{slice, head_sort}
 use Rattle.nodes.specs.Trees.{span_of, WordAt}
 use Rattle.syntax.specs.Parsing.{Ahead, Kept, Sequence, Refused, Moves}
 use Rattle.nodes.specs.Methods.{no_span, ParametersAt, MethodAt, MethodsAt}
-use Rattle.syntax.specs.Classes.{Past, Listing, ParametersRead, ParametersRefused, MethodRefused, class_with, MembersRefused, Adds, Keeps, MethodMeasured, MembersMeasured}
+use Rattle.syntax.specs.Classes.{Past, Listing, ParametersRead, ParametersRefused, MethodRefused, class_with, MembersRefused, Adds, MethodMeasured, MembersMeasured}
 use Rattle.syntax.specs.Sizes.{Knows}
 use Rattle.syntax.proofs.Nodes.{tree-kept}
 use Rattle.syntax.proofs.Sizes.{body-within}
-use Rattle.syntax.proofs.Naming.{no_names, learn-all-more}
+use Rattle.syntax.proofs.Naming.{learn-all-more}
 use Rattle.syntax.proofs.Reading.{Sees, not_first, no_name, terms-see, places-see, ahead_none, ahead-one, ahead-then, noted-then}
 use Rattle.syntax.proofs.Forms.{Missing, word-seen}
 
@@ -78,22 +80,22 @@ params_more {m} {r} {s} {ps} x w P four c e h =
           (cases_lt i (length ps));
     }
 
-pub no-parameters-made : {text : List ℕ} {base p f q : ℕ} {vs : List Span} {g : Listed} → Sees text p (symbol sign.CloseParen) f q
-    → g ≡ record { to = q; parameters = record { count = 0; names = no_span ∷ no_span ∷ no_span ∷ no_span ∷ [] }; names = 0 } → ParametersRead text base p vs g
-no-parameters-made {text} {base} {p} {f} {q} {vs} s e =
-    subst (ParametersRead text base p vs) (sym e)
+pub no-parameters-made : {text : List ℕ} {base p f q : ℕ} {us : Stack Span} {g : Listed} → Sees text p (symbol sign.CloseParen) f q
+    → g ≡ record { to = q; parameters = record { count = 0; names = no_span ∷ no_span ∷ no_span ∷ no_span ∷ [] } } → ParametersRead text base p us us g
+no-parameters-made {text} {base} {p} {f} {q} {us} s e =
+    subst (ParametersRead text base p us us) (sym e)
     (record {
       names = [];
       way = λ c d. step-on (State.define (Stage.open' c d)) (State.want (Context.body c d [])) s refl;
       past = past_one s;
       held = λ m lies. record { many = refl; words = λ i lt h. absurd (omega arith) };
       many = refl;
-      named = no_names;
+      named = λ k. k;
     })
 
-pub first-listed : {text : List ℕ} {base p from to : ℕ} {us vs : List Span} {a g : Listed} → Sees text p (identifier (slice text from to)) from to
-    → a ≡ record { to = p; parameters = record { count = 0; names = no_span ∷ no_span ∷ no_span ∷ no_span ∷ [] }; names = 0 } → Adds text base us vs a from to g → from ≤ to → to ≤ length text → length us ≡ length vs → Listing text base p vs g
-first-listed {text} {base} {p} {from} {to} {us} {vs} {a} {g} s e d h le l =
+pub first-listed : {text : List ℕ} {base p from to : ℕ} {us vs : Stack Span} {a g : Listed} → Sees text p (identifier (slice text from to)) from to
+    → a ≡ record { to = p; parameters = record { count = 0; names = no_span ∷ no_span ∷ no_span ∷ no_span ∷ [] } } → Adds text base us vs a from to g → from ≤ to → to ≤ length text → Listing text base p us vs g
+first-listed {text} {base} {p} {from} {to} {us} {vs} {a} {g} s e d h le =
     let w = slice text from to in
     let none-at : (m : Memory) → ParametersAt m a.parameters [] = λ m. record { many = ap (λ z. z.parameters.count) e; words = λ i lt four. absurd (omega arith) } in
     let four : length a.parameters.names ≡ 4 = ap (λ z. length z.parameters.names) e in
@@ -106,14 +108,14 @@ first-listed {text} {base} {p} {from} {to} {us} {vs} {a} {g} s e d h le l =
       four = ap length d.names ∙ length-set _ _ _ ∙ four;
       many = d.many ∙ ap (λ z. z.parameters.count + 1) e;
       held = λ m lies. params_more (span_of base from to) w (none-at m) four d.many d.names (word-seen base from to refl h le m lies);
-      named = λ r. d.named.learns [] (subst (λ z. Knows text us z []) (sym (ap (λ z. z.names) e)) (no_names (l ∙ r)));
+      named = d.named.learns [];
     }
 
 pub parameters-lost : {text : List ℕ} {p e : ℕ} → (head_sort (terms text p) ≡ Some (sort.Sign sign.CloseParen) → ⊥) → Missing text p sort.Name e → ParametersRefused text p e
 parameters-lost {p = p} other h =
     record { from = p; ahead = ahead_none; place = h.0; way = λ c d. parameters-halt c d _ (no_name _ h.1) (not_first _ (symbol sign.CloseParen) other) }
 
-module _ {text : List ℕ} {base p : ℕ} {us : List Span} {a : Listed} (A : Listing text base p us a) where
+module _ {text : List ℕ} {base p : ℕ} {us vs : Stack Span} {a : Listed} (A : Listing text base p us vs a) where
   pub parameters-close-lost : {e : ℕ} → (head_sort (terms text a.to) ≡ Some (sort.Sign sign.Comma) → ⊥) → Missing text a.to (sort.Sign sign.CloseParen) e → ParametersRefused text p e
   parameters-close-lost other h =
       record {
@@ -124,7 +126,7 @@ module _ {text : List ℕ} {base p : ℕ} {us : List Span} {a : Listed} (A : Lis
             ∙ either-halts (State.define (Stage.parameter c d A.before A.last)) Stop.close _ Stop.comma _ _ (λ ρ. refl) refl (not_first _ (symbol sign.CloseParen) h.1) (not_first _ (symbol sign.Comma) other);
       }
 
-  pub parameters-made : {f q : ℕ} → Sees text a.to (symbol sign.CloseParen) f q → ParametersRead text base p us (record { to = q; parameters = a.parameters; names = a.names })
+  pub parameters-made : {f q : ℕ} → Sees text a.to (symbol sign.CloseParen) f q → ParametersRead text base p us vs (record { to = q; parameters = a.parameters })
   parameters-made s =
       record {
         names = A.before ++ (A.last ∷ []);
@@ -149,9 +151,9 @@ module _ {text : List ℕ} {base p : ℕ} {us : List Span} {a : Listed} (A : Lis
               ∙ name-halts (State.define (Stage.comma c d (A.before ++ (A.last ∷ [])))) (λ x. State.define (Stage.parameter c d (A.before ++ (A.last ∷ [])) x)) _ (λ ρ. refl) refl (no_name _ h.1);
         }
 
-    pub next-listed : {from to : ℕ} {vs : List Span} {g : Listed} → Sees text tc (identifier (slice text from to)) from to → Adds text base us vs a from to g → from ≤ to → to ≤ length text → length us ≡ length vs
-        → Listing text base p vs g
-    next-listed {from} {to} {vs} {g} s d h le lv =
+    pub next-listed : {from to : ℕ} {ws : Stack Span} {g : Listed} → Sees text tc (identifier (slice text from to)) from to → Adds text base vs ws a from to g → from ≤ to → to ≤ length text
+        → Listing text base p us ws g
+    next-listed {from} {to} {ws} {g} s d h le =
         let w = slice text from to in
         let ps = A.before ++ (A.last ∷ []) in
         let l = length-append A.before (A.last ∷ []) in
@@ -164,7 +166,7 @@ module _ {text : List ℕ} {base p : ℕ} {us : List Span} {a : Listed} (A : Lis
           four = ap length d.names ∙ length-set _ _ _ ∙ A.four;
           many = let q = d.many in let r = A.many in omega arith;
           held = λ m lies. params_more (span_of base from to) w (A.held m lies) A.four d.many d.names (word-seen base from to refl h le m lies);
-          named = λ r. subst (Knows text vs g.names) (sym (learn-all-more [] ps w)) (d.named.learns _ (A.named (lv ∙ r)));
+          named = λ k. subst (Knows text ws) (sym (learn-all-more [] ps w)) (d.named.learns _ (A.named k));
         }
 
 -- a method
@@ -203,7 +205,7 @@ module _ {text : List ℕ} {p from to : ℕ} (sn : Sees text p (identifier (slic
     method-parameters-lost x =
         record { from = x.from; ahead = ahead-then (ahead-one sn) (ahead-then (ahead-one so) x.ahead); place = x.place; way = λ c. open-on c ∙ x.way c (slice text from to) }
 
-    module _ {base : ℕ} {ts : List Span} {l : Listed} (L : ParametersRead text base r ts l) where
+    module _ {base : ℕ} {rs ts : Stack Span} {l : Listed} (L : ParametersRead text base r rs ts l) where
       body-on : (c : BareClass) → run (terms text p) (State.define (Stage.def c)) ≡ run (terms text l.to) (State.want (Context.body c (slice text from to) L.names))
       body-on c = open-on c ∙ L.way c (slice text from to)
 
@@ -214,7 +216,7 @@ module _ {text : List ℕ} {p from to : ℕ} (sn : Sees text p (identifier (slic
       body-lost x =
           record { from = x.from; ahead = ahead-then ahead-body x.ahead; place = x.place; way = λ c. body-on c ∙ x.way (Context.body c (slice text from to) L.names) (omega arith) }
 
-      module _ {xs ys : List Node} {vs : List Span} {n : ℕ} {b : Got} (B : Sequence text base l.to xs ys ts vs n l.names b) where
+      module _ {xs ys : Table Node} {vs : Stack Span} {b : Got} (B : Sequence text base l.to xs ys ts vs b) where
         pub method-end-lost : {e : ℕ} → Missing text b.to (sort.Word word.End) e → MethodRefused text p e
         method-end-lost h =
             record {
@@ -225,10 +227,10 @@ module _ {text : List ℕ} {p from to : ℕ} (sn : Sees text p (identifier (slic
                   ∙ body-halts c (slice text from to) L.names (forget B.parsed.tree) _ B.calm B.last (not_first _ (keyword word.End) h.1);
             }
 
-        pub method-made : {fe te : ℕ} {sp : Span} {w : Bool} → Sees text b.to (keyword word.End) fe te → sp ≡ span_of base from to → from ≤ to → to ≤ length text → Moves text l.to n b → length ts ≡ 16
-            → Decides w ((l.parameters.count ≤ 4) × (b.size.small ≡ true) × (b.size.depth ≤ 16) × (b.names ≤ 16))
-            → MethodMeasured text base p xs ys n (record { read = record { to = te; nodes = b.nodes; method = record { name = sp; parameters = l.parameters; root = b.root } }; within = w })
-        method-made {fe} {te} {sp} {w} se es h le mb ls judged =
+        pub method-made : {fe te : ℕ} {sp : Span} {w : Bool} {n : ℕ} → Sees text b.to (keyword word.End) fe te → sp ≡ span_of base from to → from ≤ to → to ≤ length text → Moves text l.to xs ys b → Knows text rs [] → n ≡ length (held vs)
+            → Decides w ((l.parameters.count ≤ 4) × (b.size.small ≡ true) × (b.size.depth ≤ 16) × (n ≤ 16))
+            → MethodMeasured text base p xs ys (record { read = record { to = te; method = record { name = sp; parameters = l.parameters; root = b.root } }; within = w })
+        method-made {fe} {te} {sp} {w} se es h le mb known count judged =
             let x = slice text from to in
             let e = B.parsed.tree in
             record {
@@ -245,7 +247,7 @@ module _ {text : List ℕ} {p from to : ℕ} (sn : Sees text p (identifier (slic
                 held = λ room mem lies. record { name = word-seen base from to es h le mem lies; parameters = L.held mem lies; below = mb.root; body = B.parsed.built.held room mem lies };
                 counted = B.parsed.measured.counted;
               };
-              within = body-within w L.names e L.many B.parsed.measured.sized (B.parsed.measured.named _ (L.named ls)) judged;
+              within = body-within w L.names e L.many B.parsed.measured.sized (B.parsed.measured.named _ (L.named known)) count judged;
             }
 
 -- methods, one behind another
@@ -269,13 +271,13 @@ note-last (x ∷ ms) m ds d ns n1 n2 p q =
     let h = note-last ms m v.tree d u.rest n1 n2 (ap (λ z. record { tree = v.tree; rest = z }) rest) q in
     ap (λ z. record { tree = u.tree ∷ z.tree; rest = z.rest }) h ∙ ap (λ z. record { tree = z ++ (d ∷ []); rest = n2 }) (ap (λ z. z.tree) p)
 
-methods-kept : (mem : Memory) (xs ys : List Node) (n k : ℕ) (rs : List Method) (ms : List (tree.Method ℕ)) → Kept xs ys n → n ≤ k → MethodsAt mem xs n rs ms → MethodsAt mem ys k rs ms
-methods-kept mem xs ys n k rs [] kept h t = tt
-methods-kept mem xs ys n k [] (m ∷ ms) kept h t = t
-methods-kept mem xs ys n k (r ∷ rs) (m ∷ ms) kept h t =
+methods-kept : (mem : Memory) (xs ys : Table Node) (k : ℕ) (rs : List Method) (ms : List (tree.Method ℕ)) → Kept xs ys → xs.count ≤ k → MethodsAt mem xs.items.now xs.count rs ms → MethodsAt mem ys.items.now k rs ms
+methods-kept mem xs ys k rs [] kept h t = tt
+methods-kept mem xs ys k [] (m ∷ ms) kept h t = t
+methods-kept mem xs ys k (r ∷ rs) (m ∷ ms) kept h t =
     let b = t.0.below in (
       record { name = t.0.name; parameters = t.0.parameters; below = omega arith; body = tree-kept mem m.body r.root kept b t.0.body },
-      methods-kept mem xs ys n k rs ms kept h t.1,
+      methods-kept mem xs ys k rs ms kept h t.1,
     )
 
 methods-more : (mem : Memory) (ys : List Node) (n : ℕ) (rs : List Method) (ms : List (tree.Method ℕ)) (r : Method) (m : tree.Method ℕ) → MethodsAt mem ys n rs ms → length ms < length rs → MethodAt mem ys n r m
@@ -296,14 +298,14 @@ more_within : (ms : List (tree.Method ℕ)) (m : tree.Method ℕ) → MethodsWit
 more_within [] m t = (tt, t.0)
 more_within (x ∷ ms) m t = let r = more_within ms m t.1 in ((t.0, r.0), r.1)
 
-pub no-members : {text : List ℕ} {base p : ℕ} {ys : List Node} {rs : List Method} → MembersMeasured text base p ys rs (record { read = record { to = p; nodes = 0; count = 0 }; within = true })
-no-members = record {
-  read = record { methods = []; way = λ x y. refl; noted = refl; ahead = ahead_none; many = refl; held = λ a b m lies. tt; counted = refl };
+pub no-members : {text : List ℕ} {base p : ℕ} {xs : Table Node} {rs : Table Method} → xs.count ≡ 0 → rs.count ≡ 0 → MembersMeasured text base p xs xs rs rs (record { read = p; within = true })
+no-members n m = record {
+  read = record { methods = []; way = λ x y. refl; noted = refl; ahead = ahead_none; many = m; held = λ a b m lies. tt; counted = n; lenders = (refl, refl) };
   within = (λ _. tt, λ _. refl);
 }
 
-module _ {text : List ℕ} {base p : ℕ} {xs : List Node} {rs : List Method} {j : Judged Members} (M : MembersMeasured text base p xs rs j) where
-  module _ {fd td : ℕ} (sd : Sees text j.read.to (keyword word.Def) fd td) where
+module _ {text : List ℕ} {base p : ℕ} {ws xs : Table Node} {qs rs : Table Method} {j : Judged ℕ} (M : MembersMeasured text base p ws xs qs rs j) where
+  module _ {fd td : ℕ} (sd : Sees text j.read (keyword word.Def) fd td) where
     def-on : (x y : List ℕ) → run (terms text p) (State.define (Stage.members (class_with x y []))) ≡ run (terms text td) (State.define (Stage.def (class_with x y M.read.methods)))
     def-on x y = M.read.way x y ∙ step-on (State.define (Stage.members (class_with x y M.read.methods))) (State.define (Stage.def (class_with x y M.read.methods))) sd refl
 
@@ -311,32 +313,29 @@ module _ {text : List ℕ} {base p : ℕ} {xs : List Node} {rs : List Method} {j
     member-lost r =
         record { from = r.from; ahead = ahead-then M.read.ahead (ahead-then (ahead-one sd) r.ahead); place = r.place; way = λ x y. def-on x y ∙ r.way (class_with x y M.read.methods) }
 
-    pub member-made : {ys : List Node} {ss : List Method} {d : Judged Defined} {g : Members} → MethodMeasured text base td xs ys j.read.nodes d → Keeps rs ss j.read d.read g → j.read.nodes ≤ d.read.nodes → length xs ≡ length ys
-        → MembersMeasured text base p ys ss (record { read = g; within = j.within && d.within })
-    member-made {ys} {ss} {d} {g} D k le l1 =
+    pub member-made : {ys : Table Node} {ss : Table Method} {d : Judged Defined} → MethodMeasured text base td xs ys d → ss.count ≡ rs.count + 1 → ss.items.now ≡ set rs.items.now rs.count d.read.method → ss.items.ghost_name ≡ rs.items.ghost_name
+        → xs.count ≤ ys.count → MembersMeasured text base p ws ys qs ss (record { read = d.read.to; within = j.within && d.within })
+    member-made {ys} {ss} {d} D count items lender le =
         let ms = M.read.methods in
         let m = D.read.method in
         record {
           read = record {
             methods = ms ++ (m ∷ []);
             way = λ x y. def-on x y ∙ D.read.way (class_with x y ms)
-                ∙ ap₂ (λ z ns. run (terms text z) (State.define (Stage.members (record { name = x; parent = y; methods = ns })))) (sym k.to_is) (sym (forget-more ms m));
+                ∙ ap (λ ns. run (terms text d.read.to) (State.define (Stage.members (record { name = x; parent = y; methods = ns })))) (sym (forget-more ms m));
             noted = ap (λ z. annotate_methods 0 z (places text p)) (forget-more ms m)
                 ∙ note-last (forget_methods ms) (bare_method m) ms m (places text p) (fd ∷ places text td) (places text d.read.to)
-                (M.read.noted ∙ ap (λ z. record { tree = ms; rest = z }) (places-see sd)) (D.read.noted fd)
-                ∙ ap (λ z. record { tree = ms ++ (m ∷ []); rest = places text z }) (sym k.to_is);
-            ahead = subst (Ahead text p) (sym k.to_is) (ahead-then M.read.ahead (ahead-then (ahead-one sd) D.read.ahead));
-            many = let q = k.count in let r = M.read.many in let l = length-append ms (m ∷ []) in omega arith;
+                (M.read.noted ∙ ap (λ z. record { tree = ms; rest = z }) (places-see sd)) (D.read.noted fd);
+            ahead = ahead-then M.read.ahead (ahead-then (ahead-one sd) D.read.ahead);
+            many = let r = M.read.many in let l = length-append ms (m ∷ []) in omega arith;
             held = λ room seats mem lies.
-                let q = k.count in
                 let r = M.read.many in
-                let t = k.nodes in
-                let ls : length ss ≡ length rs = ap length k.table ∙ length-set rs j.read.count d.read.method in
-                let old : MethodsAt mem ys d.read.nodes rs ms = methods-kept mem xs ys j.read.nodes d.read.nodes rs ms D.read.kept le (M.read.held (omega arith) (omega arith) mem lies) in
-                let new = methods-more mem ys d.read.nodes rs ms d.read.method m old (omega arith) (D.read.held (omega arith) mem lies) in
-                subst (λ z. MethodsAt mem ys z ss (ms ++ (m ∷ []))) (sym t)
-                (subst (λ z. MethodsAt mem ys d.read.nodes z (ms ++ (m ∷ []))) (sym (k.table ∙ ap (λ z. set rs z d.read.method) r)) new);
-            counted = k.nodes ∙ D.read.counted ∙ ap (λ z. z + nodes m.body) M.read.counted ∙ sym (nodes-more ms m);
+                let ls : length ss.items.now ≡ length rs.items.now = ap length items ∙ length-set rs.items.now rs.count d.read.method in
+                let old : MethodsAt mem ys.items.now ys.count rs.items.now ms = methods-kept mem xs ys ys.count rs.items.now ms D.read.kept le (M.read.held (omega (arith, D.read.kept.room)) (omega arith) mem lies) in
+                let new = methods-more mem ys.items.now ys.count rs.items.now ms d.read.method m old (omega arith) (D.read.held room mem lies) in
+                subst (λ z. MethodsAt mem ys.items.now ys.count z (ms ++ (m ∷ []))) (sym (items ∙ ap (λ z. set rs.items.now z d.read.method) r)) new;
+            counted = D.read.counted ∙ ap (λ z. z + nodes m.body) M.read.counted ∙ sym (nodes-more ms m);
+            lenders = (D.read.kept.lender ∙ M.read.lenders.0, lender ∙ M.read.lenders.1);
           };
           within = Decides-like (j.within && d.within) (λ h. within_more ms m h.0 h.1) (more_within ms m) (Decides-and j.within d.within M.within D.within);
         }

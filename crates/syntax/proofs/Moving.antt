@@ -1,6 +1,7 @@
 -- How far each form moves on, from how far its parts do. Assumes nothing.
 use Rattle.std.proofs.Common.{◌≡◌, ℕ, ◌<◌, ◌≤◌, List, length, ap, arith}
 use Rattle.nodes.specs.declared.node.Node.{Node}
+use Rattle.syntax.specs.declared.table.Table.{Table}
 use Rattle.syntax.specs.declared.read.Size.{Size}
 use Rattle.syntax.specs.declared.read.Got.{Got}
 use Rattle.syntax.specs.declared.read.Given.{Given}
@@ -14,45 +15,45 @@ Between text q from to = (q ≤ from) × (from < to) × (to ≤ length text)
 abbrev pub Behind : List ℕ → ℕ → ℕ → Type 0
 Behind text q to = (q < to) × (to ≤ length text)
 
-module _ {text : List ℕ} {p n : ℕ} {xs ys : List Node} {m : ℕ} {x : Node} {size : Size} {g : Got} where
-  pub leaf-moves : {from to : ℕ} → n ≤ p → Between text p from to → Put xs ys n m x to size g → Moves text p n g
+module _ {text : List ℕ} {p : ℕ} {xs ys : Table Node} {x : Node} {size : Size} {g : Got} where
+  pub leaf-moves : {from to : ℕ} → xs.count ≤ p → Between text p from to → Put xs ys x to size g → Moves text p xs ys g
   leaf-moves h i put = record { on = omega (arith, put.to_is); inside = omega (arith, put.to_is); few = omega (arith, put.to_is, put.counted); new = omega (arith, put.root); root = omega (arith, put.root, put.counted) }
 
-  pub seq-moves : {a b : Got} {ta : ℕ} → Moves text p n a → Behind text a.to ta → Moves text ta a.nodes b → Put xs ys b.nodes m x b.to size g → Moves text p n g
+  pub seq-moves : {xs0 : Table Node} {a b : Got} {ta : ℕ} {t1 : Table Node} → Moves text p xs0 t1 a → Behind text a.to ta → Moves text ta t1 xs b → Put xs ys x b.to size g → Moves text p xs0 ys g
   seq-moves ma i mb put = record { on = omega (arith, put.to_is); inside = omega (arith, put.to_is); few = omega (arith, put.to_is, put.counted); new = omega (arith, put.root); root = omega (arith, put.root, put.counted) }
 
-  pub set-moves : {e : Got} {from to value : ℕ} → (p ≤ from) × (from < to) × (to < value) × (value ≤ length text) → Moves text value n e → Put xs ys e.nodes m x e.to size g → Moves text p n g
+  pub set-moves : {xs0 : Table Node} {e : Got} {from to value : ℕ} → (p ≤ from) × (from < to) × (to < value) × (value ≤ length text) → Moves text value xs0 xs e → Put xs ys x e.to size g → Moves text p xs0 ys g
   set-moves i me put = record { on = omega (arith, put.to_is); inside = omega (arith, put.to_is); few = omega (arith, put.to_is, put.counted); new = omega (arith, put.root); root = omega (arith, put.root, put.counted) }
 
-  pub while-moves : {a b : Got} {from q ta tb : ℕ} → Between text p from q → Moves text q n a → Behind text a.to ta → Moves text ta a.nodes b → Behind text b.to tb → Put xs ys b.nodes m x tb size g → Moves text p n g
+  pub while-moves : {xs0 : Table Node} {a b : Got} {from q ta tb : ℕ} {t1 : Table Node} → Between text p from q → Moves text q xs0 t1 a → Behind text a.to ta → Moves text ta t1 xs b → Behind text b.to tb → Put xs ys x tb size g → Moves text p xs0 ys g
   while-moves i ma ia mb ib put = record { on = omega (arith, put.to_is); inside = omega (arith, put.to_is); few = omega (arith, put.to_is, put.counted); new = omega (arith, put.root); root = omega (arith, put.root, put.counted) }
 
-  pub if-moves : {a b c : Got} {from q ta tb tc : ℕ} → Between text p from q → Moves text q n a → Behind text a.to ta → Moves text ta a.nodes b → Behind text b.to tb → Moves text tb b.nodes c → Behind text c.to tc
-      → Put xs ys c.nodes m x tc size g → Moves text p n g
+  pub if-moves : {xs0 : Table Node} {a b c : Got} {from q ta tb tc : ℕ} {t1 t2 : Table Node} → Between text p from q → Moves text q xs0 t1 a → Behind text a.to ta → Moves text ta t1 t2 b → Behind text b.to tb → Moves text tb t2 xs c → Behind text c.to tc
+      → Put xs ys x tc size g → Moves text p xs0 ys g
   if-moves i ma ia mb ib mc ic put = record { on = omega (arith, put.to_is); inside = omega (arith, put.to_is); few = omega (arith, put.to_is, put.counted); new = omega (arith, put.root); root = omega (arith, put.root, put.counted) }
 
-  pub new-moves : {b : Given} {from q cf ct r : ℕ} → Between text p from q → Between text q cf ct → Behind text ct r → MovesArgs text r n b → Put xs ys b.nodes m x b.to size g → Moves text p n g
+  pub new-moves : {xs0 : Table Node} {b : Given} {from q cf ct r : ℕ} → Between text p from q → Between text q cf ct → Behind text ct r → MovesArgs text r xs0 xs b → Put xs ys x b.to size g → Moves text p xs0 ys g
   new-moves i ic io mb put = record { on = omega (arith, put.to_is); inside = omega (arith, put.to_is); few = omega (arith, put.to_is, put.counted); new = omega (arith, put.root); root = omega (arith, put.root, put.counted) }
 
-  pub test-moves : {a : Got} {ta cf ct : ℕ} → Moves text p n a → Behind text a.to ta → Between text ta cf ct → Put xs ys a.nodes m x ct size g → Moves text p n g
+  pub test-moves : {xs0 : Table Node} {a : Got} {ta cf ct : ℕ} → Moves text p xs0 xs a → Behind text a.to ta → Between text ta cf ct → Put xs ys x ct size g → Moves text p xs0 ys g
   test-moves ma i ic put = record { on = omega (arith, put.to_is); inside = omega (arith, put.to_is); few = omega (arith, put.to_is, put.counted); new = omega (arith, put.root); root = omega (arith, put.root, put.counted) }
 
-  pub call-moves : {a : Got} {b : Given} {ta cf ct r : ℕ} → Moves text p n a → Behind text a.to ta → Between text ta cf ct → Behind text ct r → MovesArgs text r a.nodes b → Put xs ys b.nodes m x b.to size g → Moves text p n g
+  pub call-moves : {xs0 : Table Node} {a : Got} {b : Given} {ta cf ct r : ℕ} {t1 : Table Node} → Moves text p xs0 t1 a → Behind text a.to ta → Between text ta cf ct → Behind text ct r → MovesArgs text r t1 xs b → Put xs ys x b.to size g → Moves text p xs0 ys g
   call-moves ma i ic io mb put = record { on = omega (arith, put.to_is); inside = omega (arith, put.to_is); few = omega (arith, put.to_is, put.counted); new = omega (arith, put.root); root = omega (arith, put.root, put.counted) }
 
-module _ {text : List ℕ} {p n : ℕ} {g : Given} where
-  pub none_moves : {a : Given} {to : ℕ} → a.nodes ≡ n → a.arguments.count ≡ 0 → n ≤ p → Behind text p to → Closed a to g → MovesArgs text p n g
-  none_moves h z few i c =
+module _ {text : List ℕ} {p : ℕ} {g : Given} where
+  pub none_moves : {xs : Table Node} {a : Given} {to : ℕ} → a.arguments.count ≡ 0 → xs.count ≤ p → Behind text p to → Closed a to g → MovesArgs text p xs xs g
+  none_moves z few i c =
       let s = ap (λ z. z.count) c.same in
-      record { on = omega (arith, c.to_is); inside = omega (arith, c.to_is); few = omega (arith, c.to_is, c.counted); more = omega (arith, c.counted); count = omega (arith, c.to_is) }
+      record { on = omega (arith, c.to_is); inside = omega (arith, c.to_is); few = omega (arith, c.to_is); more = omega arith; count = omega (arith, c.to_is) }
 
-  pub first-moves : {a : Given} {e : Got} → a.arguments.count ≡ 0 → Moves text p n e → With a e g → MovesArgs text p n g
-  first-moves z me w = record { on = omega (arith, w.to_is); inside = omega (arith, w.to_is); few = omega (arith, w.to_is, w.counted); more = omega (arith, w.counted); count = omega (arith, w.to_is, w.many) }
+  pub first-moves : {xs ys : Table Node} {a : Given} {e : Got} → a.arguments.count ≡ 0 → Moves text p xs ys e → With a e g → MovesArgs text p xs ys g
+  first-moves z me w = record { on = omega (arith, w.to_is); inside = omega (arith, w.to_is); few = omega (arith, w.to_is); more = omega arith; count = omega (arith, w.to_is, w.many) }
 
-  pub next-moves : {a : Given} {e : Got} {ta : ℕ} → MovesArgs text p n a → Behind text a.to ta → Moves text ta a.nodes e → With a e g → MovesArgs text p n g
-  next-moves ma i me w = record { on = omega (arith, w.to_is); inside = omega (arith, w.to_is); few = omega (arith, w.to_is, w.counted); more = omega (arith, w.counted); count = omega (arith, w.to_is, w.many) }
+  pub next-moves : {xs0 xs ys : Table Node} {a : Given} {e : Got} {ta : ℕ} → MovesArgs text p xs0 xs a → Behind text a.to ta → Moves text ta xs ys e → With a e g → MovesArgs text p xs0 ys g
+  next-moves ma i me w = record { on = omega (arith, w.to_is); inside = omega (arith, w.to_is); few = omega (arith, w.to_is); more = omega arith; count = omega (arith, w.to_is, w.many) }
 
-  pub close-moves : {a : Given} {to : ℕ} → MovesArgs text p n a → Behind text a.to to → Closed a to g → MovesArgs text p n g
+  pub close-moves : {xs0 ys : Table Node} {a : Given} {to : ℕ} → MovesArgs text p xs0 ys a → Behind text a.to to → Closed a to g → MovesArgs text p xs0 ys g
   close-moves ma i c =
       let s = ap (λ z. z.count) c.same in
-      record { on = omega (arith, c.to_is); inside = omega (arith, c.to_is); few = omega (arith, c.to_is, c.counted); more = omega (arith, c.counted); count = omega (arith, c.to_is) }
+      record { on = omega (arith, c.to_is); inside = omega (arith, c.to_is); few = omega (arith, c.to_is); more = omega arith; count = omega (arith, c.to_is) }

@@ -1,14 +1,19 @@
 -- The distinct names of a body, kept as spans of its text.
-use Rattle.std.proofs.Common.{◌≡◌, ℕ, zero, suc, ◌+◌, ◌^◌, ◌<◌, ◌≤◌, min, Bool, true, false, ◌||◌, List, [], ◌∷◌, ◌++◌, map, length, get_or, take, set, sym, refl, ap, ◌∙◌, subst, ap₂, ⊎_elim, arith}
+use Rattle.std.proofs.Common.{◌≡◌, ℕ, zero, suc, ◌+◌, ◌^◌, ◌<◌, ◌≤◌, Bool, true, false, ◌||◌, List, [], ◌∷◌, ◌++◌, map, length, get_or, take, Some, None, Option, Ok, Err, Result, MatchResult, mod-eq_of_lt, ◌-◌, is_some, sym, refl, ap, ◌∙◌, subst, ap₂, ⊎_elim, arith}
 use Rattle.std.proofs.lemmas.Slice.Eq.{bytes_eq-Decides}
-use Rattle.std.proofs.lemmas.List.{take_more_set, map_push, length_push, length-map, length-set, get_or-map}
+use Rattle.std.proofs.lemmas.List.{map_push, length_push, length-map, length-take, take_all, take-append-le, get_or-map, get_or-take}
 use Rattle.std.proofs.lemmas.Bool.{cases_Bool, or_right, or_from, cond-true, cond-false}
 use Rattle.std.specs.Str.{bytes_eq}
+use Rattle.stack.specs.declared.Stack.{Stack}
+use Rattle.stack.specs.Held.{held, room}
+use Rattle.text.specs.declared.span.Space.TheVariants.{Texts}
 use Rattle.text.specs.declared.span.Span.{Span}
+use Rattle.text.specs.First.{First}
 use Rattle.text.specs.Memory.{bytes_of}
 use Rattle.grammar.specs.Measure.{known, learn, learn_all}
 use Rattle.syntax.specs.Sight.{slice}
-use Rattle.nodes.specs.Trees.{span_of}
+use Rattle.syntax.specs.declared.read.Variable.{Variable}
+use Rattle.syntax.specs.declared.read.Variable.TheVariants as variable
 use Rattle.syntax.specs.Sizes.{lone, Knows, Learns}
 use Rattle.syntax.specs.Parsing.{named, LearnsTarget}
 use Rattle.syntax.proofs.Nodes.{word-from}
@@ -33,76 +38,81 @@ learn-known ns x e = cond-true (known ns x) _ _ e
 learn-new : (ns : List (List ℕ)) (x : List ℕ) → known ns x ≡ false → learn ns x ≡ ns ++ (x ∷ [])
 learn-new ns x e = cond-false (known ns x) _ _ e
 
-learn-longer : (ns : List (List ℕ)) (x : List ℕ) → length ns ≤ length (learn ns x)
-learn-longer ns x =
-    ⊎_elim (λ e. let l = ap length (learn-known ns x e) in omega arith) (λ e. let l = ap length (learn-new ns x e) in let p = length_push ns x in omega arith) (cases_Bool (known ns x))
-
 -- names are learnt in their order
 pub learn-all-more : (ns ps : List (List ℕ)) (x : List ℕ) → learn_all ns (ps ++ (x ∷ [])) ≡ learn (learn_all ns ps) x
 learn-all-more ns [] x = refl
 learn-all-more ns (p ∷ ps) x = learn-all-more (learn ns p) ps x
 
--- no names, before a body begins
-pub no_names : {text : List ℕ} {us : List Span} → length us ≡ 16 → Knows text us 0 []
-no_names h = record { room = h; many = refl; words = λ _. refl }
+-- what is past the room changes nothing of what is held
+take-learn : (n : ℕ) (ns : List (List ℕ)) (x : List ℕ) → n ≤ length ns → take n (learn ns x) ≡ take n ns
+take-learn n ns x h =
+    ⊎_elim (λ e. ap (take n) (learn-known ns x e)) (λ e. ap (take n) (learn-new ns x e) ∙ take-append-le n ns (x ∷ []) h) (cases_Bool (known ns x))
 
--- the bytes of a name in its own text
-pub name-bytes : (text : List ℕ) (s : Span) (from to : ℕ) → from < 2 ^ 16 → from ≤ to → to ≤ length text → s ≡ span_of 0 from to → bytes_of (lone text) s ≡ slice text from to
-name-bytes text s from to h le g e =
-    ap (bytes_of (lone text)) e
+-- no names, before a body begins
+pub no_names : {text : List ℕ} {us : Stack Span} → room us ≡ 17 → held us ≡ [] → Knows text us []
+no_names {text} h e = record { room = h; words = ap (map (bytes_of (lone text))) e }
+
+-- the bytes of a name in its (record { space = Texts; start = from; len = to - from }) text
+name-bytes : (text : List ℕ) (from to : ℕ) → from < 2 ^ 16 → from ≤ to → to ≤ length text → bytes_of (lone text) (record { space = Texts; start = from; len = to - from }) ≡ slice text from to
+name-bytes text from to h le g =
+    ap (λ z. bytes_of (lone text) (record { space = Texts; start = z; len = to - from })) (sym (mod-eq_of_lt (omega arith) ∙ (let e : 0 + from ≡ from = omega arith in e)))
     ∙ (word-from (lone text) text 0 from to (omega arith) (λ i lt. ap (λ z. get_or text z 0) (let e : 0 + i ≡ i = omega arith in e)) le g).1
 
--- so a name is learnt by where it lies
-pub learnt-there : {text : List ℕ} {us vs : List Span} {m r : ℕ} (s : Span) (from to : ℕ) → from < 2 ^ 16 → from ≤ to → to ≤ length text → s ≡ span_of 0 from to
-    → Learns text us vs m (bytes_of (lone text) s) r → Learns text us vs m (slice text from to) r
-learnt-there {text} {us} {vs} {m} {r} s from to h le g e l = subst (λ (x : List ℕ). Learns text us vs m x r) (name-bytes text s from to h le g e) l
-
-module _ {text : List ℕ} {us : List Span} {m : ℕ} {x : List ℕ} where
-  -- more than the limit stay more
-  pub learnt-many : (r : ℕ) → r ≡ 17 → min 16 (length us) < m → Learns text us us m x r
-  learnt-many r e h = record {
-    learns = λ ns k.
-        let l = learn-longer ns x in
-        let q = k.many in
-        let w = k.room in
-        record { room = w; many = omega arith; words = λ g. absurd (omega arith) };
-  }
-
+module _ {text : List ℕ} {us : Stack Span} (from to : ℕ) (small : from < 2 ^ 16) (le : from ≤ to) (inside : to ≤ length text) where
   -- a name that is among them
-  pub learnt-known : (s : Span) (i : ℕ) → i < length (take m us) → ((d : Span) → bytes_of (lone text) (get_or (take m us) i d) ≡ bytes_of (lone text) s) → bytes_of (lone text) s ≡ x → m ≤ 16 → Learns text us us m x m
-  learnt-known s i lt h e le = record {
-    learns = λ ns k.
-        let w = k.words le in
-        let at : get_or ns i [] ≡ x = ap (λ z. get_or z i []) (sym w) ∙ get_or-map (bytes_of (lone text)) (take m us) i s [] lt ∙ h s ∙ e in
-        let n : i < length ns = let a = ap length w in let b = length-map (take m us) (bytes_of (lone text)) in omega arith in
-        subst (Knows text us m) (sym (learn-known ns x (known_at ns i x n at))) k;
-  }
-
-  -- a new name
-  pub learnt-new : {vs : List Span} (s : Span) → ((i : ℕ) (d : Span) → i < length (take m us) → bytes_of (lone text) (get_or (take m us) i d) ≡ bytes_of (lone text) s → ⊥) → bytes_of (lone text) s ≡ x → m ≤ 16
-      → vs ≡ set us m s → Learns text us vs m x (m + 1)
-  learnt-new {vs} s apart e le is = record {
+  pub learnt-known : {xs : List Span} (r : Option ℕ) → xs ≡ held us → First (λ s. bytes_of (lone text) s ≡ bytes_of (lone text) (record { space = Texts; start = from; len = to - from })) xs r → is_some r ≡ true → Learns text us us (slice text from to)
+  learnt-known None i p e = let z : ◌≡◌ {A = ℕ} 0 1 = cc in absurd (omega arith)
+  learnt-known (Some i) is p₀ e = record {
     learns = λ ns k.
         let f = bytes_of (lone text) in
-        let w = k.words le in
-        let q = k.many in
-        let room = k.room in
-        let n : length ns ≡ length (take m us) = ap length (sym w) ∙ length-map (take m us) f in
-        let new : known ns x ≡ false = known-nowhere ns x (λ i lt g. apart i s (omega arith) (sym (get_or-map f (take m us) i s [] (omega arith)) ∙ ap (λ z. get_or z i []) w ∙ g ∙ sym e)) in
-        let p = length_push ns x in
-        subst (Knows text vs (m + 1)) (sym (learn-new ns x new))
+        let m = length-map (held us) f in
+        let w = ap length k.words in
+        let t = length-take 17 ns in
+        let p = subst (λ z. First (λ s. bytes_of (lone text) s ≡ bytes_of (lone text) (record { space = Texts; start = from; len = to - from })) z (Some i)) is p₀ in
+        let lt = p.0 in
+        let at : get_or ns i [] ≡ slice text from to =
+        sym (get_or-take 17 ns i [] (omega arith)) ∙ ap (λ z. get_or z i []) (sym k.words) ∙ get_or-map f (held us) i (record { space = Texts; start = from; len = to - from }) [] lt ∙ p.1 (record { space = Texts; start = from; len = to - from }) ∙ name-bytes text from to small le inside in
+        subst (Knows text us) (sym (learn-known ns _ (known_at ns i _ (omega arith) at))) k;
+  }
+
+  -- a new name, put behind the others while there is room
+  pub learnt-new : {vs : Stack Span} {U : Type 0} {xs : List Span} (r : Option ℕ) (q : Result U Span) → xs ≡ held us → First (λ s. bytes_of (lone text) s ≡ bytes_of (lone text) (record { space = Texts; start = from; len = to - from })) xs r → is_some r ≡ false → room vs ≡ room us
+      → MatchResult q (λ _. length (held us) < room us) (λ y. (y ≡ (record { space = Texts; start = from; len = to - from })) × (length (held us) ≡ room us)) → MatchResult q (λ _. held vs ≡ held us ++ (record { space = Texts; start = from; len = to - from }) ∷ []) (λ _. held vs ≡ held us) → Learns text us vs (slice text from to)
+  learnt-new (Some i) q is p e r full h = let z : ◌≡◌ {A = ℕ} 0 1 = cc in absurd (omega arith)
+  learnt-new None (Ok u) is p₀ e r full h = record {
+    learns = λ ns k.
+        let f = bytes_of (lone text) in
+        let x = slice text from to in
+        let b = name-bytes text from to small le inside in
+        let p = subst (λ z. First (λ s. bytes_of (lone text) s ≡ bytes_of (lone text) (record { space = Texts; start = from; len = to - from })) z None) is p₀ in
+        let m = length-map (held us) f in
+        let w = ap length k.words in
+        let t = length-take 17 ns in
+        let size = k.room in
+        let all : take 17 ns ≡ ns = take_all 17 ns (omega arith) in
+        let new : known ns x ≡ false = known-nowhere ns x (λ i lt g. p i (record { space = Texts; start = from; len = to - from }) (omega arith) (sym (get_or-map f (held us) i (record { space = Texts; start = from; len = to - from }) [] (omega arith)) ∙ ap (λ z. get_or z i []) (k.words ∙ all) ∙ g ∙ sym b)) in
+        let l = length_push ns x in
+        subst (Knows text _) (sym (learn-new ns x new))
         (record {
-          room = ap length is ∙ length-set us m s ∙ room;
-          many = omega arith;
-          words = λ g. ap (λ z. map f (take (m + 1) z)) is ∙ ap (map f) (take_more_set us m s (omega arith)) ∙ map_push f (take m us) s ∙ ap₂ (λ y z. y ++ (z ∷ [])) w e;
+          room = r ∙ k.room;
+          words = ap (map f) h ∙ map_push f (held us) (record { space = Texts; start = from; len = to - from }) ∙ ap₂ (λ y z. y ++ (z ∷ [])) (k.words ∙ all) b ∙ sym (take_all 17 (ns ++ (x ∷ [])) (omega arith));
         });
+  }
+  learnt-new None (Err y) is p e r full h = record {
+    learns = λ ns k.
+        let m = length-map (held us) (bytes_of (lone text)) in
+        let w = ap length k.words in
+        let t = length-take 17 ns in
+        let size = k.room in
+        let f = full.1 in
+        record { room = r ∙ k.room; words = ap (map (bytes_of (lone text))) h ∙ k.words ∙ sym (take-learn 17 ns (slice text from to) (omega arith)) };
   }
 
 -- the names that a write's target adds
-pub target-field : {text : List ℕ} {us : List Span} {m : ℕ} (b : Bool) (x : List ℕ) → b ≡ true → LearnsTarget text us us m (named b x) m
-target-field true x e = record { learns = λ ns k. k }
-target-field false x e = let z : ◌≡◌ {A = ℕ} 0 1 = cc in absurd (omega arith)
+pub target-field : {text : List ℕ} {us : Stack Span} (v : Variable) (x : List ℕ) → v ≡ variable.Field → LearnsTarget text us us (named v x)
+target-field variable.Field x e = record { learns = λ ns k. k }
+target-field variable.Local x e = let z : ◌≡◌ {A = ℕ} 0 1 = cc in absurd (omega arith)
 
-pub target-local : {text : List ℕ} {us vs : List Span} {m r : ℕ} (b : Bool) (x : List ℕ) → b ≡ false → Learns text us vs m x r → LearnsTarget text us vs m (named b x) r
-target-local false x e l = record { learns = l.learns }
-target-local true x e l = let z : ◌≡◌ {A = ℕ} 0 1 = cc in absurd (omega arith)
+pub target-local : {text : List ℕ} {us vs : Stack Span} (v : Variable) (x : List ℕ) → v ≡ variable.Local → Learns text us vs x → LearnsTarget text us vs (named v x)
+target-local variable.Local x e l = record { learns = l.learns }
+target-local variable.Field x e l = let z : ◌≡◌ {A = ℕ} 0 1 = cc in absurd (omega arith)

@@ -8,27 +8,29 @@ use Rattle.text.specs.Meanings.{length-bytes_of, get_or-bytes_of}
 use Rattle.grammar.specs.Tree.{Expr, Args}
 use Rattle.grammar.specs.Measure.{count}
 use Rattle.nodes.specs.declared.node.Node.{Node}
+use Rattle.syntax.specs.declared.table.Table.{Table}
 use Rattle.syntax.specs.declared.read.Got.{Got}
 use Rattle.syntax.specs.declared.read.Size.{Size}
 use Rattle.syntax.specs.Sight.{slice}
 use Rattle.nodes.specs.Trees.{Lies, span_of, WordAt, at, TreeAt, ArgsAt}
 use Rattle.syntax.specs.Parsing.{Kept, Put}
 
-pub kept-all : (xs : List Node) (n : ℕ) → Kept xs xs n
-kept-all xs n = record { below = λ j i. refl }
+pub kept-all : (xs : Table Node) → Kept xs xs
+kept-all xs = record { below = λ j i. refl; room = refl; lender = refl }
 
-pub kept_then : {xs ys zs : List Node} {n m : ℕ} → Kept xs ys n → Kept ys zs m → n ≤ m → Kept xs zs n
-kept_then a b h = record { below = λ j i. b.below j (omega arith) ∙ a.below j i }
+pub kept_then : {xs ys zs : Table Node} → Kept xs ys → Kept ys zs → xs.count ≤ ys.count → Kept xs zs
+kept_then a b h = record { below = λ j i. b.below j (omega arith) ∙ a.below j i; room = b.room ∙ a.room; lender = b.lender ∙ a.lender }
 
-pub kept_put : {xs ys : List Node} {n m : ℕ} {x : Node} {to : ℕ} {size : Size} {g : Got} → Put xs ys n m x to size g → Kept xs ys n
-kept_put {xs} {ys} {n} {m} {x} put =
-    record { below = λ j i. let ne : j ≢ n = omega arith in ap (λ z. at z j) put.table ∙ get_or-set_other xs n j x _ ne }
+pub kept_put : {xs ys : Table Node} {x : Node} {to : ℕ} {size : Size} {g : Got} → Put xs ys x to size g → Kept xs ys
+kept_put {xs} {ys} {x} put =
+    record {
+      below = λ j i. let ne : j ≢ xs.count = omega arith in ap (λ z. at z j) put.items ∙ get_or-set_other xs.items.now xs.count j x _ ne;
+      room = ap length put.items ∙ length-set xs.items.now xs.count x;
+      lender = put.lender;
+    }
 
-pub put-at : {xs ys : List Node} {n m : ℕ} {x : Node} {to : ℕ} {size : Size} {g : Got} → Put xs ys n m x to size g → n < length xs → at ys n ≡ x
-put-at {xs} {ys} {n} {m} {x} put h = ap (λ z. at z n) put.table ∙ get_or-set_same xs n x _ h
-
-pub put-length : {xs ys : List Node} {n m : ℕ} {x : Node} {to : ℕ} {size : Size} {g : Got} → Put xs ys n m x to size g → length ys ≡ length xs
-put-length {xs} {ys} {n} {m} {x} put = ap length put.table ∙ length-set xs n x
+pub put-at : {xs ys : Table Node} {x : Node} {to : ℕ} {size : Size} {g : Got} → Put xs ys x to size g → xs.count < length xs.items.now → at ys.items.now xs.count ≡ x
+put-at {xs} {ys} {x} put h = ap (λ z. at z xs.count) put.items ∙ get_or-set_same xs.items.now xs.count x _ h
 
 module _ (m : Memory) (xs ys : List Node) where
   mutual
@@ -77,11 +79,11 @@ module _ (m : Memory) (xs ys : List Node) where
       λ k. let b = (t.1 k).0 in (b, tree-same e (get_or roots (count es) 0) (λ j q. h j (omega arith)) (t.1 k).1),
     )
 
-pub tree-kept : {xs ys : List Node} {n : ℕ} (m : Memory) (e : Expr ℕ) (i : ℕ) → Kept xs ys n → i < n → TreeAt m xs i e → TreeAt m ys i e
-tree-kept {xs} {ys} m e i k h t = tree-same m xs ys e i (λ j q. k.below j (omega arith)) t
+pub tree-kept : {xs ys : Table Node} (m : Memory) (e : Expr ℕ) (i : ℕ) → Kept xs ys → i < xs.count → TreeAt m xs.items.now i e → TreeAt m ys.items.now i e
+tree-kept {xs} {ys} m e i k h t = tree-same m xs.items.now ys.items.now e i (λ j q. k.below j (omega arith)) t
 
-pub args-kept : {xs ys : List Node} {n : ℕ} (m : Memory) (es : Args ℕ) (i : ℕ) (roots : List ℕ) → Kept xs ys n → i ≤ n → ArgsAt m xs i roots es → ArgsAt m ys i roots es
-args-kept {xs} {ys} m es i roots k h t = args-same m xs ys es i roots (λ j q. k.below j (omega arith)) t
+pub args-kept : {xs ys : Table Node} (m : Memory) (es : Args ℕ) (i : ℕ) (roots : List ℕ) → Kept xs ys → i ≤ xs.count → ArgsAt m xs.items.now i roots es → ArgsAt m ys.items.now i roots es
+args-kept {xs} {ys} m es i roots k h t = args-same m xs.items.now ys.items.now es i roots (λ j q. k.below j (omega arith)) t
 
 -- what stands below i stands below more
 pub args-below : (m : Memory) (xs : List Node) (es : Args ℕ) (i l : ℕ) (roots : List ℕ) → i ≤ l → ArgsAt m xs i roots es → ArgsAt m xs l roots es

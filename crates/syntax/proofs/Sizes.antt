@@ -1,13 +1,17 @@
 -- What is measured of each form, from what was measured of its parts.
-use Rattle.std.proofs.Common.{◌≡◌, ℕ, suc, ◌≤◌, Bool, true, ◌&&◌, leb, List, length, Decides, sym, refl, ap, ◌∙◌, subst, arith}
+use Rattle.std.proofs.Common.{◌≡◌, ℕ, ℤ, pos, Some, None, Option, MatchOption, is_some, unwrap_or, suc, ◌≤◌, Bool, true, ◌&&◌, leb, List, length, Decides, sym, refl, ap, ◌∙◌, subst, arith}
+use Rattle.std.proofs.lemmas.List.{length-map, length-take}
 use Rattle.std.proofs.lemmas.Bool.{leb-true, le-leb}
 use Rattle.std.proofs.lemmas.Bool.Decides.{Decides-like, Decides-and}
+use Rattle.stack.specs.declared.Stack.{Stack}
+use Rattle.stack.specs.Held.{held}
 use Rattle.text.specs.declared.span.Span.{Span}
+use Rattle.text.specs.Memory.{bytes_of}
 use Rattle.grammar.specs.Tree.{Expr, Args}
-use Rattle.grammar.specs.Measure.{depth, count, most_arguments, longest_string, Fits, IntegersFit, names_of, BodyWithin}
+use Rattle.grammar.specs.Measure.{depth, count, most_arguments, longest_string, Fits, value_of, IntegersFit, names_of, BodyWithin}
 use Rattle.grammar.specs.Limits.{argument_limit}
 use Rattle.syntax.specs.declared.read.Size.{Size}
-use Rattle.syntax.specs.Sizes.{around, side_by_side, of_list, Small, Sized, SizedWithin, SizedList, Knows}
+use Rattle.syntax.specs.Sizes.{around, side_by_side, of_list, Small, Sized, SizedWithin, SizedList, Knows, lone}
 
 -- expressions of one token
 pub plain-sized : {s : Size} (e : Expr ℕ) → s ≡ record { depth = 1; small = true } → depth e ≡ 1 → IntegersFit e → longest_string e ≤ 255 → most_arguments e ≤ 4 → Sized s e
@@ -28,6 +32,11 @@ pub around-sized : {s t : Size} (e u : Expr ℕ) → t ≡ around s → Sized s 
 around-sized {s} e u h z d f g =
     let q = z.deep in
     subst (λ x. Sized x u) (sym h) (record { deep = omega (arith, d); small = Decides-like s.small f g z.small })
+
+-- an integer, by its value if that is one of 32 bits
+pub integer-read : (w : List ℕ) (o : Option ℤ) → MatchOption o (Fits w → ⊥) (λ v. Fits w × (v ≡ value_of w)) → Decides (is_some o) (Fits w) × (Fits w → unwrap_or o (pos 0) ≡ value_of w)
+integer-read w None h = (((λ e. let z : ◌≡◌ {A = ℕ} 0 1 = cc in absurd (omega arith)), λ f. absurd (h f)), λ f. absurd (h f))
+integer-read w (Some v) h = (((λ e. h.0), λ f. refl), λ f. h.1)
 
 -- expressions of several parts
 pub seq-sized : {s t u : Size} (f : ℕ) (a b : Expr ℕ) → u ≡ side_by_side s t → Sized s a → Sized t b → Sized u (Expr.seq f a b)
@@ -123,11 +132,13 @@ invoke-sized {r} {s} f e m es h x y =
     })
 
 -- a body, by what was measured of it
-pub body-within : {text : List ℕ} {us : List Span} {s : Size} {c m : ℕ} (w : Bool) (ps : List (List ℕ)) (e : Expr ℕ) → c ≡ length ps → Sized s e → Knows text us m (names_of ps e)
-    → Decides w ((c ≤ 4) × (s.small ≡ true) × (s.depth ≤ 16) × (m ≤ 16)) → Decides w (BodyWithin ps e)
-body-within {s = s} w ps e h z k =
+pub body-within : {text : List ℕ} {us : Stack Span} {s : Size} {c n : ℕ} (w : Bool) (ps : List (List ℕ)) (e : Expr ℕ) → c ≡ length ps → Sized s e → Knows text us (names_of ps e) → n ≡ length (held us)
+    → Decides w ((c ≤ 4) × (s.small ≡ true) × (s.depth ≤ 16) × (n ≤ 16)) → Decides w (BodyWithin ps e)
+body-within {text} {us} {s} w ps e h z k count =
     let d = z.deep in
-    let n = k.many in
+    let many = ap length k.words in
+    let m = length-map (held us) (bytes_of (lone text)) in
+    let l = length-take 17 (names_of ps e) in
     Decides-like w
     (λ t.
     let small = z.small.0 t.1 in

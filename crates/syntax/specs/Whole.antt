@@ -12,6 +12,7 @@ use Rattle.nodes.specs.declared.node.Node.{Node}
 use Rattle.nodes.specs.declared.node.Method.{Method}
 use Rattle.nodes.specs.declared.node.Class.{Class}
 use Rattle.syntax.specs.declared.read.Judged.{Judged}
+use Rattle.syntax.specs.declared.table.Table.{Table}
 use Rattle.nodes.specs.declared.node.Rule.{Rule}
 use Rattle.nodes.specs.declared.refusal.Refusal.{Refusal}
 use Rattle.nodes.specs.declared.refusal.Refusal.TheVariants.{TooLong, Stray, Unexpected, OverLimit}
@@ -93,8 +94,22 @@ pub record ClassJudged (text : List ℕ) (base : ℕ) (nodes : List Node) (metho
   pub stands : ClassStands text base nodes methods g.read
   pub within : Decides g.within (WithinLimits (Text.class stands.class))
 
+-- the rule in its table, as the machine reads it
+pub record RuleRead (text : List ℕ) (base : ℕ) (xs ys : Table Node) (r : Rule) : Type 0 where
+  pub tree : Expr ℕ
+  pub way : parse Kind.rule (terms text 0) ≡ Outcome.accepted (forget_text (Text.rule tree))
+  pub noted : (annotate_text 0 (forget_text (Text.rule tree)) (places text 0)).tree ≡ Text.rule tree
+  pub counted : r.nodes ≡ text_nodes (Text.rule tree)
+  pub held : r.nodes ≤ length ys.items.now → (m : Memory) → Lies m text base → TreeAt m ys.items.now r.root tree
+  pub lender : ys.items.ghost_name ≡ xs.items.ghost_name
+
+-- and with what is measured of it
+pub record RuleMeasured (text : List ℕ) (base : ℕ) (xs ys : Table Node) (g : Judged Rule) : Type 0 where
+  pub read : RuleRead text base xs ys g.read
+  pub within : Decides g.within (WithinLimits (Text.rule read.tree))
+
 -- the class in its tables, as the machine reads it
-pub record ClassRead (text : List ℕ) (base : ℕ) (nodes : List Node) (methods : List Method) (r : Class) : Type 0 where
+pub record ClassRead (text : List ℕ) (base : ℕ) (xs ys : Table Node) (rs ss : Table Method) (r : Class) : Type 0 where
   pub class : tree.Class ℕ
   pub way : parse Kind.class (terms text 0) ≡ Outcome.accepted (forget_text (Text.class class))
   pub noted : (annotate_text 0 (forget_text (Text.class class)) (places text 0)).tree ≡ Text.class class
@@ -102,9 +117,10 @@ pub record ClassRead (text : List ℕ) (base : ℕ) (nodes : List Node) (methods
   pub many : r.methods ≡ length class.methods
   pub name : (m : Memory) → Lies m text base → WordAt m r.name class.name
   pub parent : (m : Memory) → Lies m text base → WordAt m r.parent class.parent
-  pub held : r.nodes ≤ length nodes → r.methods ≤ length methods → (m : Memory) → Lies m text base → MethodsAt m nodes r.nodes methods class.methods
+  pub held : r.nodes ≤ length ys.items.now → r.methods ≤ length ss.items.now → (m : Memory) → Lies m text base → MethodsAt m ys.items.now r.nodes ss.items.now class.methods
+  pub lenders : (ys.items.ghost_name ≡ xs.items.ghost_name) × (ss.items.ghost_name ≡ rs.items.ghost_name)
 
 -- and with what is measured of it
-pub record ClassMeasured (text : List ℕ) (base : ℕ) (nodes : List Node) (methods : List Method) (g : Judged Class) : Type 0 where
-  pub read : ClassRead text base nodes methods g.read
+pub record ClassMeasured (text : List ℕ) (base : ℕ) (xs ys : Table Node) (rs ss : Table Method) (g : Judged Class) : Type 0 where
+  pub read : ClassRead text base xs ys rs ss g.read
   pub within : Decides g.within (WithinLimits (Text.class read.class))

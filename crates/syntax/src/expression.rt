@@ -6,350 +6,297 @@ ghost use Rattle.syntax.specs.declared.sight.Sort.TheVariants as sort;
 ghost use Rattle.grammar.specs.Notes.{first};
 ghost use Rattle.syntax.specs.Left.{left, terms, places};
 ghost use Rattle.syntax.specs.Sight.{shown, head_sort};
+ghost use Rattle.nodes.specs.Trees.{span_of};
 ghost use Rattle.syntax.specs.Parsing.{Writes, NoWrite, written_form, Parsed, Refused, Operand, Tested, Item, Sequence, Argued, RefusedArgs, Moves, MovesArgs, With, Closed};
 
-use crate::leaves::{field, integer, local, string};
-use crate::read::{Given, Got, Size, Stuck, Target};
-use crate::sight::{Sight, Sort, after, expect, look, name, target_ahead};
-use crate::table::{closed, leaf, learn_target, put, span, with, written};
+use crate::read::{Given, Got, Size, Stuck, Target, Variable};
+use crate::sight::{Sight, Sort};
+use crate::source::Text;
+use crate::table::{Table, leaf, put};
 use lexer::token::{Keyword, Symbol};
-use nodes::node::{Arguments, Form, Node};
+use nodes::node::{Form, Node};
+use stack::Stack;
 use text::span::Span;
 
-// Items parted by `;`.
-#[cycle(arguments_conditional_creation_item_keyed_operand_primary_repetition_sequence_test)]
-pub fn sequence(
-    text: &[u8],
-    base: u16,
-    at: u16,
-    nodes: &mut [Node],
-    names: &mut [Span],
-    n: u16,
-    m: u8,
-) -> Result<Got, Stuck>
-    requires short { length text.now ≤ 4096 }
-    requires inside { at ≤ length text.now }
-    requires few { n ≤ at }
-    ensures moves { IfOk result (λ g. Moves text.now at n g) }
-    ensures reads { MatchResult result (λ g. Sequence text.now base at nodes.old nodes.new names.old names.new n m g) (λ s. Refused 4 text.now at s.0) }
+// The form of a write.
+fn written(text: Text<'_>, target: Target, root: u16) -> Form
+    requires { target.from ≤ target.to }
+    ensures by_its_target { result ≡ written_form target.variable (span_of text.entry.base target.from target.to) root }
 {
-    let a = item(text, base, at, nodes, names, n, m)?;
-    match after(text, a.to, Sort::Sign(Symbol::Semicolon)) {
-        Some(to) => {
-            let b = sequence(text, base, to, nodes, names, a.nodes, a.names)?;
-            let node = Node {
-                place: a.place,
-                form: Form::Seq(a.root, b.root),
-            };
-            Ok(put(nodes, b.nodes, b.names, node, b.to, a.size.beside(b.size)))
+    let name = text.span(target.from, target.to);
+    match target.variable {
+        Variable::Local => Form::SetLocal(name, root),
+        Variable::Field => Form::SetField(name, root),
+    }
+}
+
+impl Text<'_> {
+    // Items parted by `;`.
+    #[cycle(expressions)]
+    pub fn sequence(
+        self,
+        at: u16,
+        nodes: &mut Table<'_, Node>,
+        names: &mut Stack<'_, Span>,
+    ) -> Result<Got, Stuck>
+        requires inside { at ≤ length self.bytes.now }
+        requires few { nodes.old.count ≤ at }
+        ensures moves { IfOk result (λ g. Moves self.entry.bytes.now at nodes.old nodes.new g) }
+        ensures reads { MatchResult result (λ g. Sequence self.entry.bytes.now self.entry.base at nodes.old nodes.new names.old names.new g) (λ s. Refused 4 self.entry.bytes.now at s.0) }
+    {
+        let a = self.item(at, nodes, names)?;
+        match self.after(a.to, Sort::Sign(Symbol::Semicolon)) {
+            Some(to) => {
+                let b = self.sequence(to, nodes, names)?;
+                let node = Node {
+                    place: a.place,
+                    form: Form::Seq(a.root, b.root),
+                };
+                Ok(put(nodes, node, b.to, a.size.beside(b.size)))
+            }
+            None => Ok(a),
         }
-        None => Ok(a),
     }
-}
 
-// A write, or a test.
-#[cycle(arguments_conditional_creation_item_keyed_operand_primary_repetition_sequence_test)]
-fn item(
-    text: &[u8],
-    base: u16,
-    at: u16,
-    nodes: &mut [Node],
-    names: &mut [Span],
-    n: u16,
-    m: u8,
-) -> Result<Got, Stuck>
-    requires short { length text.now ≤ 4096 }
-    requires inside { at ≤ length text.now }
-    requires few { n ≤ at }
-    ensures moves { IfOk result (λ g. Moves text.now at n g) }
-    ensures reads { MatchResult result (λ g. Item text.now base at nodes.old nodes.new names.old names.new n m g) (λ s. Refused 3 text.now at s.0) }
-{
-    match target_ahead(text, at) {
-        Some(target) => {
-            let known = learn_target(text, names, m, target);
-            let e = item(text, base, target.value, nodes, names, n, known)?;
-            let node = Node {
-                place: target.from,
-                form: written(base, target, e.root),
-            };
-            Ok(put(nodes, e.nodes, e.names, node, e.to, e.size.deeper()))
+    // A write, or a test.
+    #[cycle(expressions)]
+    fn item(
+        self,
+        at: u16,
+        nodes: &mut Table<'_, Node>,
+        names: &mut Stack<'_, Span>,
+    ) -> Result<Got, Stuck>
+        requires inside { at ≤ length self.bytes.now }
+        requires few { nodes.old.count ≤ at }
+        ensures moves { IfOk result (λ g. Moves self.entry.bytes.now at nodes.old nodes.new g) }
+        ensures reads { MatchResult result (λ g. Item self.entry.bytes.now self.entry.base at nodes.old nodes.new names.old names.new g) (λ s. Refused 3 self.entry.bytes.now at s.0) }
+    {
+        match self.target_ahead(at) {
+            Some(target) => {
+                self.learn_target(names, target);
+                let e = self.item(target.value, nodes, names)?;
+                let node = Node {
+                    place: target.from,
+                    form: written(self, target, e.root),
+                };
+                Ok(put(nodes, node, e.to, e.size.deeper()))
+            }
+            None => self.test(at, nodes, names),
         }
-        None => test(text, base, at, nodes, names, n, m),
     }
-}
 
-// An operand, and any number of tests of its class.
-#[cycle(arguments_conditional_creation_item_keyed_operand_primary_repetition_sequence_test)]
-fn test(
-    text: &[u8],
-    base: u16,
-    at: u16,
-    nodes: &mut [Node],
-    names: &mut [Span],
-    n: u16,
-    m: u8,
-) -> Result<Got, Stuck>
-    requires short { length text.now ≤ 4096 }
-    requires inside { at ≤ length text.now }
-    requires few { n ≤ at }
-    ensures moves { IfOk result (λ g. Moves text.now at n g) }
-    ensures reads { MatchResult result (λ g. Tested text.now base at nodes.old nodes.new names.old names.new n m g) (λ s. Refused 2 text.now at s.0) }
-{
-    let mut g = operand(text, base, at, nodes, names, n, m)?;
-    while let Some(to) = after(text, g.to, Sort::Word(Keyword::InstanceOf)) {
-        let class = name(text, to)?;
-        let node = Node {
-            place: g.place,
-            form: Form::InstanceOf(g.root, span(base, class.from, class.to)),
-        };
-        g = put(nodes, g.nodes, g.names, node, class.to, g.size.deeper());
+    // An operand, and any number of tests of its class.
+    #[cycle(expressions)]
+    fn test(
+        self,
+        at: u16,
+        nodes: &mut Table<'_, Node>,
+        names: &mut Stack<'_, Span>,
+    ) -> Result<Got, Stuck>
+        requires inside { at ≤ length self.bytes.now }
+        requires few { nodes.old.count ≤ at }
+        ensures moves { IfOk result (λ g. Moves self.entry.bytes.now at nodes.old nodes.new g) }
+        ensures reads { MatchResult result (λ g. Tested self.entry.bytes.now self.entry.base at nodes.old nodes.new names.old names.new g) (λ s. Refused 2 self.entry.bytes.now at s.0) }
+    {
+        let mut g = self.operand(at, nodes, names)?;
+        while let Some(to) = self.after(g.to, Sort::Word(Keyword::InstanceOf)) {
+            let class = self.name(to)?;
+            let node = Node {
+                place: g.place,
+                form: Form::InstanceOf(g.root, self.span(class.from, class.to)),
+            };
+            g = put(nodes, node, class.to, g.size.deeper());
+        }
+        Ok(g)
     }
-    Ok(g)
-}
 
-// A primary, and any number of calls.
-#[cycle(arguments_conditional_creation_item_keyed_operand_primary_repetition_sequence_test)]
-fn operand(
-    text: &[u8],
-    base: u16,
-    at: u16,
-    nodes: &mut [Node],
-    names: &mut [Span],
-    n: u16,
-    m: u8,
-) -> Result<Got, Stuck>
-    requires short { length text.now ≤ 4096 }
-    requires inside { at ≤ length text.now }
-    requires few { n ≤ at }
-    ensures moves { IfOk result (λ g. Moves text.now at n g) }
-    ensures reads { MatchResult result (λ g. Operand text.now base at nodes.old nodes.new names.old names.new n m g) (λ s. Refused 1 text.now at s.0) }
-{
-    let mut g = primary(text, base, at, nodes, names, n, m)?;
-    while let Some(to) = after(text, g.to, Sort::Sign(Symbol::Dot)) {
-        let method = name(text, to)?;
-        let open = expect(text, method.to, Sort::Sign(Symbol::OpenParen))?;
-        let given = arguments(text, base, open, nodes, names, g.nodes, g.names)?;
+    // A primary, and any number of calls.
+    #[cycle(expressions)]
+    fn operand(
+        self,
+        at: u16,
+        nodes: &mut Table<'_, Node>,
+        names: &mut Stack<'_, Span>,
+    ) -> Result<Got, Stuck>
+        requires inside { at ≤ length self.bytes.now }
+        requires few { nodes.old.count ≤ at }
+        ensures moves { IfOk result (λ g. Moves self.entry.bytes.now at nodes.old nodes.new g) }
+        ensures reads { MatchResult result (λ g. Operand self.entry.bytes.now self.entry.base at nodes.old nodes.new names.old names.new g) (λ s. Refused 1 self.entry.bytes.now at s.0) }
+    {
+        let mut g = self.primary(at, nodes, names)?;
+        while let Some(to) = self.after(g.to, Sort::Sign(Symbol::Dot)) {
+            let method = self.name(to)?;
+            let open = self.expect(method.to, Sort::Sign(Symbol::OpenParen))?;
+            let given = self.arguments(open, nodes, names)?;
+            let node = Node {
+                place: g.place,
+                form: Form::Invoke(g.root, self.span(method.from, method.to), given.arguments),
+            };
+            g = put(nodes, node, given.to, g.size.beside(given.size).deeper());
+        }
+        Ok(g)
+    }
+
+    // What begins with a token of its own.
+    #[cycle(expressions)]
+    fn primary(
+        self,
+        at: u16,
+        nodes: &mut Table<'_, Node>,
+        names: &mut Stack<'_, Span>,
+    ) -> Result<Got, Stuck>
+        requires inside { at ≤ length self.bytes.now }
+        requires few { nodes.old.count ≤ at }
+        ensures moves { IfOk result (λ g. Moves self.entry.bytes.now at nodes.old nodes.new g) }
+        ensures reads { MatchResult result (λ g. Parsed 1 self.entry.bytes.now self.entry.base at nodes.old nodes.new names.old names.new g) (λ s. Refused 1 self.entry.bytes.now at s.0) }
+    {
+        match self.look(at) {
+            Some(sight) => match sight.sort {
+                Sort::Name => Ok(self.local(at, sight, nodes, names)),
+                Sort::Integer => Ok(self.integer(at, sight, nodes, names)),
+                Sort::Field => Ok(self.field(at, sight, nodes, names)),
+                Sort::Str => Ok(self.string(at, sight, nodes, names)),
+                Sort::Word(keyword) => self.keyed(at, sight, keyword, nodes, names),
+                Sort::Sign(_) => Err(Stuck(sight.from)),
+            },
+            None => Err(Stuck(self.bytes.len() as u16)),
+        }
+    }
+
+    // What begins with a keyword.
+    #[cycle(expressions)]
+    fn keyed(
+        self,
+        at: u16,
+        sight: Sight,
+        keyword: Keyword,
+        nodes: &mut Table<'_, Node>,
+        names: &mut Stack<'_, Span>,
+    ) -> Result<Got, Stuck>
+        requires few { nodes.old.count ≤ at }
+        requires bounds { (at ≤ sight.from) × (sight.from < sight.to) × (sight.to ≤ length self.bytes.now) }
+        requires begins { left self.bytes.now at ≡ shown self.bytes.now (sort.Word keyword) sight.from sight.to }
+        ensures moves { IfOk result (λ g. Moves self.entry.bytes.now at nodes.old nodes.new g) }
+        ensures reads { MatchResult result (λ g. Parsed 1 self.entry.bytes.now self.entry.base at nodes.old nodes.new names.old names.new g) (λ s. Refused 1 self.entry.bytes.now at s.0) }
+    {
+        match keyword {
+            Keyword::If => self.conditional(at, sight, nodes, names),
+            Keyword::While => self.repetition(at, sight, nodes, names),
+            Keyword::New => self.creation(at, sight, nodes, names),
+            Keyword::Nil => Ok(leaf(nodes, sight, Form::Nil)),
+            Keyword::SelfWord => Ok(leaf(nodes, sight, Form::SelfWord)),
+            _ => Err(Stuck(sight.from)),
+        }
+    }
+
+    // `if` condition `then` consequent `else` alternative `end`.
+    #[cycle(expressions)]
+    fn conditional(
+        self,
+        at: u16,
+        sight: Sight,
+        nodes: &mut Table<'_, Node>,
+        names: &mut Stack<'_, Span>,
+    ) -> Result<Got, Stuck>
+        requires few { nodes.old.count ≤ at }
+        requires bounds { (at ≤ sight.from) × (sight.from < sight.to) × (sight.to ≤ length self.bytes.now) }
+        requires begins { left self.bytes.now at ≡ shown self.bytes.now (sort.Word word.If) sight.from sight.to }
+        ensures moves { IfOk result (λ g. Moves self.entry.bytes.now at nodes.old nodes.new g) }
+        ensures reads { MatchResult result (λ g. Parsed 1 self.entry.bytes.now self.entry.base at nodes.old nodes.new names.old names.new g) (λ s. Refused 1 self.entry.bytes.now at s.0) }
+    {
+        let a = self.sequence(sight.to, nodes, names)?;
+        let to = self.expect(a.to, Sort::Word(Keyword::Then))?;
+        let b = self.sequence(to, nodes, names)?;
+        let to = self.expect(b.to, Sort::Word(Keyword::Else))?;
+        let c = self.sequence(to, nodes, names)?;
+        let to = self.expect(c.to, Sort::Word(Keyword::End))?;
         let node = Node {
-            place: g.place,
-            form: Form::Invoke(g.root, span(base, method.from, method.to), given.arguments),
+            place: sight.from,
+            form: Form::If(a.root, b.root, c.root),
         };
-        g = put(
+        Ok(put(
             nodes,
-            given.nodes,
-            given.names,
             node,
-            given.to,
-            g.size.beside(given.size).deeper(),
-        );
+            to,
+            a.size.beside(b.size.beside(c.size)).deeper(),
+        ))
     }
-    Ok(g)
-}
 
-// What begins with a token of its own.
-#[cycle(arguments_conditional_creation_item_keyed_operand_primary_repetition_sequence_test)]
-fn primary(
-    text: &[u8],
-    base: u16,
-    at: u16,
-    nodes: &mut [Node],
-    names: &mut [Span],
-    n: u16,
-    m: u8,
-) -> Result<Got, Stuck>
-    requires short { length text.now ≤ 4096 }
-    requires inside { at ≤ length text.now }
-    requires few { n ≤ at }
-    ensures moves { IfOk result (λ g. Moves text.now at n g) }
-    ensures reads { MatchResult result (λ g. Parsed 1 text.now base at nodes.old nodes.new names.old names.new n m g) (λ s. Refused 1 text.now at s.0) }
-{
-    match look(text, at) {
-        Some(sight) => match sight.sort {
-            Sort::Name => Ok(local(text, base, at, sight, nodes, names, n, m)),
-            Sort::Integer => Ok(integer(text, base, at, sight, nodes, names, n, m)),
-            Sort::Field => Ok(field(text, base, at, sight, nodes, names, n, m)),
-            Sort::Str => Ok(string(text, base, at, sight, nodes, names, n, m)),
-            Sort::Word(keyword) => keyed(text, base, at, sight, keyword, nodes, names, n, m),
-            Sort::Sign(_) => Err(Stuck(sight.from)),
-        },
-        None => Err(Stuck(text.len() as u16)),
+    // `while` guard `do` body `end`.
+    #[cycle(expressions)]
+    fn repetition(
+        self,
+        at: u16,
+        sight: Sight,
+        nodes: &mut Table<'_, Node>,
+        names: &mut Stack<'_, Span>,
+    ) -> Result<Got, Stuck>
+        requires few { nodes.old.count ≤ at }
+        requires bounds { (at ≤ sight.from) × (sight.from < sight.to) × (sight.to ≤ length self.bytes.now) }
+        requires begins { left self.bytes.now at ≡ shown self.bytes.now (sort.Word word.While) sight.from sight.to }
+        ensures moves { IfOk result (λ g. Moves self.entry.bytes.now at nodes.old nodes.new g) }
+        ensures reads { MatchResult result (λ g. Parsed 1 self.entry.bytes.now self.entry.base at nodes.old nodes.new names.old names.new g) (λ s. Refused 1 self.entry.bytes.now at s.0) }
+    {
+        let a = self.sequence(sight.to, nodes, names)?;
+        let to = self.expect(a.to, Sort::Word(Keyword::Do))?;
+        let b = self.sequence(to, nodes, names)?;
+        let to = self.expect(b.to, Sort::Word(Keyword::End))?;
+        let node = Node {
+            place: sight.from,
+            form: Form::While(a.root, b.root),
+        };
+        Ok(put(nodes, node, to, a.size.beside(b.size).deeper()))
     }
-}
 
-// What begins with a keyword.
-#[cycle(arguments_conditional_creation_item_keyed_operand_primary_repetition_sequence_test)]
-fn keyed(
-    text: &[u8],
-    base: u16,
-    at: u16,
-    sight: Sight,
-    keyword: Keyword,
-    nodes: &mut [Node],
-    names: &mut [Span],
-    n: u16,
-    m: u8,
-) -> Result<Got, Stuck>
-    requires short { length text.now ≤ 4096 }
-    requires few { n ≤ at }
-    requires bounds { (at ≤ sight.from) × (sight.from < sight.to) × (sight.to ≤ length text.now) }
-    requires begins { left text.now at ≡ shown text.now (sort.Word keyword) sight.from sight.to }
-    ensures moves { IfOk result (λ g. Moves text.now at n g) }
-    ensures reads { MatchResult result (λ g. Parsed 1 text.now base at nodes.old nodes.new names.old names.new n m g) (λ s. Refused 1 text.now at s.0) }
-{
-    match keyword {
-        Keyword::If => conditional(text, base, at, sight, nodes, names, n, m),
-        Keyword::While => repetition(text, base, at, sight, nodes, names, n, m),
-        Keyword::New => creation(text, base, at, sight, nodes, names, n, m),
-        Keyword::Nil => Ok(leaf(nodes, n, m, sight, Form::Nil)),
-        Keyword::SelfWord => Ok(leaf(nodes, n, m, sight, Form::SelfWord)),
-        _ => Err(Stuck(sight.from)),
+    // `new` class `(` arguments `)`.
+    #[cycle(expressions)]
+    fn creation(
+        self,
+        at: u16,
+        sight: Sight,
+        nodes: &mut Table<'_, Node>,
+        names: &mut Stack<'_, Span>,
+    ) -> Result<Got, Stuck>
+        requires few { nodes.old.count ≤ at }
+        requires bounds { (at ≤ sight.from) × (sight.from < sight.to) × (sight.to ≤ length self.bytes.now) }
+        requires begins { left self.bytes.now at ≡ shown self.bytes.now (sort.Word word.New) sight.from sight.to }
+        ensures moves { IfOk result (λ g. Moves self.entry.bytes.now at nodes.old nodes.new g) }
+        ensures reads { MatchResult result (λ g. Parsed 1 self.entry.bytes.now self.entry.base at nodes.old nodes.new names.old names.new g) (λ s. Refused 1 self.entry.bytes.now at s.0) }
+    {
+        let class = self.name(sight.to)?;
+        let open = self.expect(class.to, Sort::Sign(Symbol::OpenParen))?;
+        let given = self.arguments(open, nodes, names)?;
+        let node = Node {
+            place: sight.from,
+            form: Form::New(self.span(class.from, class.to), given.arguments),
+        };
+        Ok(put(nodes, node, given.to, given.size.deeper()))
     }
-}
 
-// `if` condition `then` consequent `else` alternative `end`.
-#[cycle(arguments_conditional_creation_item_keyed_operand_primary_repetition_sequence_test)]
-fn conditional(
-    text: &[u8],
-    base: u16,
-    at: u16,
-    sight: Sight,
-    nodes: &mut [Node],
-    names: &mut [Span],
-    n: u16,
-    m: u8,
-) -> Result<Got, Stuck>
-    requires short { length text.now ≤ 4096 }
-    requires few { n ≤ at }
-    requires bounds { (at ≤ sight.from) × (sight.from < sight.to) × (sight.to ≤ length text.now) }
-    requires begins { left text.now at ≡ shown text.now (sort.Word word.If) sight.from sight.to }
-    ensures moves { IfOk result (λ g. Moves text.now at n g) }
-    ensures reads { MatchResult result (λ g. Parsed 1 text.now base at nodes.old nodes.new names.old names.new n m g) (λ s. Refused 1 text.now at s.0) }
-{
-    let a = sequence(text, base, sight.to, nodes, names, n, m)?;
-    let to = expect(text, a.to, Sort::Word(Keyword::Then))?;
-    let b = sequence(text, base, to, nodes, names, a.nodes, a.names)?;
-    let to = expect(text, b.to, Sort::Word(Keyword::Else))?;
-    let c = sequence(text, base, to, nodes, names, b.nodes, b.names)?;
-    let to = expect(text, c.to, Sort::Word(Keyword::End))?;
-    let node = Node {
-        place: sight.from,
-        form: Form::If(a.root, b.root, c.root),
-    };
-    Ok(put(
-        nodes,
-        c.nodes,
-        c.names,
-        node,
-        to,
-        a.size.beside(b.size.beside(c.size)).deeper(),
-    ))
-}
-
-// `while` guard `do` body `end`.
-#[cycle(arguments_conditional_creation_item_keyed_operand_primary_repetition_sequence_test)]
-fn repetition(
-    text: &[u8],
-    base: u16,
-    at: u16,
-    sight: Sight,
-    nodes: &mut [Node],
-    names: &mut [Span],
-    n: u16,
-    m: u8,
-) -> Result<Got, Stuck>
-    requires short { length text.now ≤ 4096 }
-    requires few { n ≤ at }
-    requires bounds { (at ≤ sight.from) × (sight.from < sight.to) × (sight.to ≤ length text.now) }
-    requires begins { left text.now at ≡ shown text.now (sort.Word word.While) sight.from sight.to }
-    ensures moves { IfOk result (λ g. Moves text.now at n g) }
-    ensures reads { MatchResult result (λ g. Parsed 1 text.now base at nodes.old nodes.new names.old names.new n m g) (λ s. Refused 1 text.now at s.0) }
-{
-    let a = sequence(text, base, sight.to, nodes, names, n, m)?;
-    let to = expect(text, a.to, Sort::Word(Keyword::Do))?;
-    let b = sequence(text, base, to, nodes, names, a.nodes, a.names)?;
-    let to = expect(text, b.to, Sort::Word(Keyword::End))?;
-    let node = Node {
-        place: sight.from,
-        form: Form::While(a.root, b.root),
-    };
-    Ok(put(
-        nodes,
-        b.nodes,
-        b.names,
-        node,
-        to,
-        a.size.beside(b.size).deeper(),
-    ))
-}
-
-// `new` class `(` arguments `)`.
-#[cycle(arguments_conditional_creation_item_keyed_operand_primary_repetition_sequence_test)]
-fn creation(
-    text: &[u8],
-    base: u16,
-    at: u16,
-    sight: Sight,
-    nodes: &mut [Node],
-    names: &mut [Span],
-    n: u16,
-    m: u8,
-) -> Result<Got, Stuck>
-    requires short { length text.now ≤ 4096 }
-    requires few { n ≤ at }
-    requires bounds { (at ≤ sight.from) × (sight.from < sight.to) × (sight.to ≤ length text.now) }
-    requires begins { left text.now at ≡ shown text.now (sort.Word word.New) sight.from sight.to }
-    ensures moves { IfOk result (λ g. Moves text.now at n g) }
-    ensures reads { MatchResult result (λ g. Parsed 1 text.now base at nodes.old nodes.new names.old names.new n m g) (λ s. Refused 1 text.now at s.0) }
-{
-    let class = name(text, sight.to)?;
-    let open = expect(text, class.to, Sort::Sign(Symbol::OpenParen))?;
-    let given = arguments(text, base, open, nodes, names, n, m)?;
-    let node = Node {
-        place: sight.from,
-        form: Form::New(span(base, class.from, class.to), given.arguments),
-    };
-    Ok(put(
-        nodes,
-        given.nodes,
-        given.names,
-        node,
-        given.to,
-        given.size.deeper(),
-    ))
-}
-
-// Behind a `(`: sequences parted by `,`, or none, and `)`.
-#[cycle(arguments_conditional_creation_item_keyed_operand_primary_repetition_sequence_test)]
-fn arguments(
-    text: &[u8],
-    base: u16,
-    at: u16,
-    nodes: &mut [Node],
-    names: &mut [Span],
-    n: u16,
-    m: u8,
-) -> Result<Given, Stuck>
-    requires short { length text.now ≤ 4096 }
-    requires inside { at ≤ length text.now }
-    requires few { n ≤ at }
-    ensures moves { IfOk result (λ g. MovesArgs text.now at n g) }
-    ensures reads { MatchResult result (λ g. Argued text.now base at nodes.old nodes.new names.old names.new n m g) (λ s. RefusedArgs text.now at s.0) }
-{
-    let none = Given {
-        to: at,
-        nodes: n,
-        names: m,
-        arguments: Arguments::none(),
-        size: Size::new(0, true),
-    };
-    if let Some(to) = after(text, at, Sort::Sign(Symbol::CloseParen)) {
-        return Ok(closed(none, to));
+    // Behind a `(`: sequences parted by `,`, or none, and `)`.
+    #[cycle(expressions)]
+    fn arguments(
+        self,
+        at: u16,
+        nodes: &mut Table<'_, Node>,
+        names: &mut Stack<'_, Span>,
+    ) -> Result<Given, Stuck>
+        requires inside { at ≤ length self.bytes.now }
+        requires few { nodes.old.count ≤ at }
+        ensures moves { IfOk result (λ g. MovesArgs self.entry.bytes.now at nodes.old nodes.new g) }
+        ensures reads { MatchResult result (λ g. Argued self.entry.bytes.now self.entry.base at nodes.old nodes.new names.old names.new g) (λ s. RefusedArgs self.entry.bytes.now at s.0) }
+    {
+        let none = Given::none(at);
+        if let Some(to) = self.after(at, Sort::Sign(Symbol::CloseParen)) {
+            return Ok(none.closed(to));
+        }
+        let e = self.sequence(at, nodes, names)?;
+        let mut given = none.with(e);
+        while let Some(to) = self.after(given.to, Sort::Sign(Symbol::Comma)) {
+            let e = self.sequence(to, nodes, names)?;
+            given = given.with(e);
+        }
+        let to = self.expect(given.to, Sort::Sign(Symbol::CloseParen))?;
+        Ok(given.closed(to))
     }
-    let e = sequence(text, base, at, nodes, names, n, m)?;
-    let mut given = with(none, e);
-    while let Some(to) = after(text, given.to, Sort::Sign(Symbol::Comma)) {
-        let e = sequence(text, base, to, nodes, names, given.nodes, given.names)?;
-        given = with(given, e);
-    }
-    let to = expect(text, given.to, Sort::Sign(Symbol::CloseParen))?;
-    Ok(closed(given, to))
 }

@@ -10,4 +10,6 @@ pub mod number;
 pub mod read;
 pub mod rule;
 pub mod sight;
+pub mod size;
+pub mod source;
 pub mod table;

@@ -11,13 +11,13 @@ pub(crate) const TEXT: usize = 4096;
 pub(crate) const STRING: u16 = 255;
 
 // The distinct names of parameters and locals in a body.
-pub(crate) const NAMES: u8 = 16;
+pub(crate) const NAMES: usize = 16;
 
 // How deep expressions stand in one another.
 pub(crate) const DEPTH: u8 = 16;
 
 // Is a body of this size, with so many parameters and names, within the limits?
-pub(crate) fn within(parameters: u16, size: Size, names: u8) -> bool
+pub(crate) fn within(parameters: u16, size: Size, names: usize) -> bool
     ensures each_limit { Decides result ((parameters ≤ 4) × (size.small ≡ true) × (size.depth ≤ 16) × (names ≤ 16)) }
 {
     parameters <= ARGUMENTS && size.small && size.depth <= DEPTH && names <= NAMES

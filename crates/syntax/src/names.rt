@@ -1,29 +1,44 @@
 // The distinct names of a body.
-ghost use Rattle.text.specs.Memory.{bytes_of};
-ghost use Rattle.syntax.specs.Sizes.{lone, Learns};
+ghost use Rattle.std.specs.Prelude.{◌≤◌, length};
+ghost use Rattle.syntax.specs.Sight.{slice};
+ghost use Rattle.syntax.specs.Sizes.{Learns};
+ghost use Rattle.syntax.specs.Parsing.{meant, LearnsTarget};
 
-use crate::limits::NAMES;
+use crate::read::{Target, Variable};
+use crate::source::Text;
+use stack::Stack;
 use text::search::first_equal;
-use text::span::{Bytes, Span};
+use text::span::{Bytes, Space, Span};
 
-// The names with one more, if it is not among them; 17 stands for all that is more than 16.
-pub fn learn(text: &[u8], names: &mut [Span], count: u8, name: Span) -> u8
-    ensures one_more_if_new { Learns text.now names.old names.new count (bytes_of (lone text.now) name) result }
-{
-    let n = count as usize;
-    if count > NAMES || n > names.len() {
-        return NAMES + 1;
+impl Text<'_> {
+    // Learns the name that has the bytes `from` up to `to`, if it is not among the names. Where there is room for one more than a body may have, names that find none need not be learnt.
+    pub(crate) fn learn(self, names: &mut Stack<'_, Span>, from: u16, to: u16)
+        requires { (from ≤ to) × (to ≤ length self.bytes.now) }
+        ensures one_more_if_new { Learns self.entry.bytes.now names.old names.new (slice self.entry.bytes.now from to) }
+    {
+        let name = Span {
+            space: Space::Texts,
+            start: from,
+            len: to - from,
+        };
+        let bytes = Bytes {
+            fixed: b"",
+            texts: self.bytes,
+            made: b"",
+        };
+        if first_equal(names.items(), &name, bytes).is_none() {
+            let _ = names.push(name);
+        }
     }
-    let bytes = Bytes {
-        fixed: b"",
-        texts: text,
-        made: b"",
-    };
-    if let Some(_) = first_equal(&names[..n], &name, bytes) {
-        return count;
+
+    // Learns the name of a local that is written to; a field's is none.
+    pub(crate) fn learn_target(self, names: &mut Stack<'_, Span>, target: Target)
+        requires { (target.from ≤ target.to) × (target.to ≤ length self.bytes.now) }
+        ensures named_by_it { LearnsTarget self.entry.bytes.now names.old names.new (meant self.entry.bytes.now target) }
+    {
+        match target.variable {
+            Variable::Local => self.learn(names, target.from, target.to),
+            Variable::Field => (),
+        }
     }
-    if n < names.len() {
-        names[n] = name;
-    }
-    count + 1
 }

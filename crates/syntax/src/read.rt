@@ -1,19 +1,21 @@
 // What the parser's functions hand up of what they read.
-use nodes::node::{Arguments, Method, Parameters};
+ghost use Rattle.std.specs.Prelude.{◌≡◌, true, false, MatchResult};
+ghost use Rattle.nodes.specs.declared.refusal.Refusal.TheVariants.{Unexpected, OverLimit};
 
-// What the limits ask of an expression: its depth, with 17 for all that is deeper than 16, and whether its literals and its lists of arguments are small enough.
+use nodes::node::{Arguments, Method, Parameters};
+use nodes::refusal::Refusal;
+
+// What the limits ask of an expression: its depth, as far as a byte counts, and whether its literals and its lists of arguments are small enough.
 #[derive(Clone, Copy)]
 pub struct Size {
     pub depth: u8,
     pub small: bool,
 }
 
-// An expression that was read: where it ends, how many nodes and names of the body there are so far, and its root with its place.
+// An expression that was read: where it ends, and its root with its place.
 #[derive(Clone, Copy)]
 pub struct Got {
     pub to: u16,
-    pub nodes: u16,
-    pub names: u8,
     pub root: u16,
     pub place: u16,
     pub size: Size,
@@ -23,8 +25,6 @@ pub struct Got {
 #[derive(Clone, Copy)]
 pub struct Given {
     pub to: u16,
-    pub nodes: u16,
-    pub names: u8,
     pub arguments: Arguments,
     pub size: Size,
 }
@@ -33,42 +33,61 @@ pub struct Given {
 #[derive(Clone, Copy)]
 pub struct Stuck(pub u16);
 
-// What can be written to, with `=` behind it: the bytes of its name, and where the value begins.
+impl From<Stuck> for Refusal {
+    ghost from_gives = { λ s f. f ≡ Unexpected s.0 };
+
+    fn from(stuck: Stuck) -> Refusal {
+        Refusal::Unexpected(stuck.0)
+    }
+}
+
+// What can be written to.
+#[derive(Clone, Copy)]
+pub enum Variable {
+    Local,
+    Field,
+}
+
+// A variable with `=` behind it: the bytes of its name, and where the value begins.
 #[derive(Clone, Copy)]
 pub struct Target {
-    pub field: bool,
+    pub variable: Variable,
     pub from: u16,
     pub to: u16,
     pub value: u16,
 }
 
-// Parameters that were read, and how many names of the body they make.
+// Parameters that were read.
 #[derive(Clone, Copy)]
 pub struct Listed {
     pub to: u16,
     pub parameters: Parameters,
-    pub names: u8,
 }
 
-// A method that was read, and how many nodes there are so far.
+// A method that was read.
 #[derive(Clone, Copy)]
 pub struct Defined {
     pub to: u16,
-    pub nodes: u16,
     pub method: Method,
 }
 
-// Methods that were read: how many nodes and methods there are so far.
-#[derive(Clone, Copy)]
-pub struct Members {
-    pub to: u16,
-    pub nodes: u16,
-    pub count: u16,
-}
-
 // What was read, and whether it is within the limits.
+// (No Result of its own: what is over the limits is handed up too.)
 #[derive(Clone, Copy)]
 pub struct Judged<T> {
     pub read: T,
     pub within: bool,
+}
+
+impl<T: Copy> Judged<T> {
+    // What was read, unless it is over the limits.
+    pub fn accepted(self) -> Result<T, Refusal>
+        ensures by_the_limits { MatchResult result (λ x. (x ≡ self.read) × (self.within ≡ true)) (λ f. (f ≡ OverLimit) × (self.within ≡ false)) }
+    {
+        if self.within {
+            Ok(self.read)
+        } else {
+            Err(Refusal::OverLimit)
+        }
+    }
 }

@@ -1,9 +1,0 @@
-use Rattle.std.proofs.Common.{◌-◌, ◌<◌, ◌≤◌, length}
-use Rattle.syntax.specs.Classes.{Listing}
-use Rattle.syntax.proofs.class.parameters.Given as goal
-
-abbrev pub invariant-loop-to : goal.invariant-loop-to
-invariant-loop-to l = (l.at < l.listed.to) × (l.listed.to ≤ length l.text) × (l.listed.parameters.count ≤ l.listed.to) × Listing l.text l.base l.at l.names l.listed
-
-abbrev pub decreases-loop-to : goal.decreases-loop-to
-decreases-loop-to l = length l.text - l.listed.to

@@ -1,0 +1,312 @@
+use Rattle.std.proofs.Common.{◌≡◌, ℕ, refl, ap, ◌∙◌, arith}
+use Rattle.std.proofs.lemmas.Result.{err_from_is_err_and, MatchResult-weaker}
+use Rattle.grammar.specs.Tree.{Expr}
+use Rattle.syntax.specs.declared.sight.Sort.TheVariants as sort
+use Rattle.syntax.specs.Sight.{shown}
+use Rattle.syntax.specs.Sizes.{around, side_by_side}
+use Rattle.syntax.proofs.Reading.{lower, never}
+use Rattle.syntax.proofs.Sizes.{plain-sized}
+use Rattle.syntax.proofs.Moving.{leaf-moves, seq-moves, set-moves, while-moves, if-moves, new-moves, test-moves, call-moves, none_moves, first-moves, next-moves, close-moves}
+use Rattle.syntax.proofs.Forms.{alternative-lost, args-made, call-args-lost, call-made, call-open-lost, class-lost, close-lost, condition-lost, consequent-lost, do-lost, else-lost, end-lost, first-lost, first_made, guard-lost, idle-sign, idle-word, if-end-lost, if-made, item-test, leaf-made, loop-lost, method-lost, new-args-lost, new-made, new-open-lost, next-lost, next-made, none_made, seq-item, seq-lost, seq-made, set-lost, set-made, test-class-lost, test-made, then-lost, token-lost, while-end-lost, while-made}
+use Rattle.syntax.proofs.source.Text.+expressions.Goals as goal
+
+-- sequence
+
+pub sequence-returns-in_err-a : goal.sequence-returns-in_err-a
+sequence-returns-in_err-a t c =
+    let p = err_from_is_err_and c.from_residual.result c.from_residual.ensures.1 in
+    rw (p.1, p.2) (record { moves = tt; reads = lower 4 (omega arith) c.in_err-a.ensures.reads })
+
+pub sequence-returns-in_err-b-in-Some : goal.sequence-returns-in_err-b-in-Some
+sequence-returns-in_err-b-in-Some t c =
+    let p = err_from_is_err_and c.from_residual-in_err-b-in-Some.result c.from_residual-in_err-b-in-Some.ensures.1 in
+    rw (p.1, p.2) (record { moves = tt; reads = seq-lost c.in_ok-a.ensures.reads (record { is = c.in-Some.ensures.found.1 }) c.in_err-b-in-Some.ensures.reads })
+
+pub sequence-returns-in_ok-b-in-Some : goal.sequence-returns-in_ok-b-in-Some
+sequence-returns-in_ok-b-in-Some t c =
+    let ma = c.in_ok-a.ensures.moves in
+    let mb = c.in_ok-b-in-Some.ensures.moves in
+    let i = c.in-Some.ensures.inside in
+    let put = c.put.ensures.put in
+    record {
+      moves = seq-moves ma i mb put;
+      reads = seq-made c.in_ok-a.ensures.reads (record { is = c.in-Some.ensures.found.1 }) c.in_ok-b-in-Some.ensures.reads put ma mb c.beside.ensures;
+    }
+
+pub sequence-returns-in-None : goal.sequence-returns-in-None
+sequence-returns-in-None t c =
+    record { moves = c.in_ok-a.ensures.moves; reads = seq-item c.in_ok-a.ensures.reads c.in-None.ensures.found }
+
+-- item
+
+pub item-returns-in_err-e-in-Some : goal.item-returns-in_err-e-in-Some
+item-returns-in_err-e-in-Some t c =
+    let p = err_from_is_err_and c.from_residual.result c.from_residual.ensures.1 in
+    rw (p.1, p.2) (record { moves = tt; reads = set-lost c.in-Some.ensures.found c.in_err-e-in-Some.ensures.reads })
+
+pub item-returns-in_ok-e-in-Some : goal.item-returns-in_ok-e-in-Some
+item-returns-in_ok-e-in-Some t c =
+    let me = c.in_ok-e-in-Some.ensures.moves in
+    let i = c.in-Some.ensures.inside in
+    let put = c.put.ensures.put in
+    record {
+      moves = set-moves i me put;
+      reads = set-made c.in-Some.ensures.found c.in_ok-e-in-Some.ensures.reads put c.written.ensures.by_its_target me (omega arith) (omega arith) c.deeper.ensures c.learn_target.ensures.named_by_it;
+    }
+
+pub item-returns-in-None : goal.item-returns-in-None
+item-returns-in-None t c =
+    record { moves = c.test.ensures.moves; reads = MatchResult-weaker c.test.result c.test.ensures.reads (λ g w. item-test w c.in-None.ensures.found) (λ s r. lower 3 (omega arith) r) }
+
+-- conditional
+
+pub conditional-returns-in_err-a : goal.conditional-returns-in_err-a
+conditional-returns-in_err-a t c =
+    let p = err_from_is_err_and c.from_residual.result c.from_residual.ensures.1 in
+    rw (p.1, p.2) (record { moves = tt; reads = condition-lost (record { is = c.requires.begins }) c.in_err-a.ensures.reads })
+
+pub conditional-returns-in_err-to : goal.conditional-returns-in_err-to
+conditional-returns-in_err-to t c =
+    let p = err_from_is_err_and c.from_residual-in_err-to.result c.from_residual-in_err-to.ensures.1 in
+    rw (p.1, p.2) (record { moves = tt; reads = then-lost (record { is = c.requires.begins }) c.in_ok-a.ensures.reads c.in_err-to.ensures.found })
+
+pub conditional-returns-in_err-b : goal.conditional-returns-in_err-b
+conditional-returns-in_err-b t c =
+    let p = err_from_is_err_and c.from_residual-in_err-b.result c.from_residual-in_err-b.ensures.1 in
+    rw (p.1, p.2) (record { moves = tt; reads = consequent-lost (record { is = c.requires.begins }) c.in_ok-a.ensures.reads (record { is = c.in_ok-to.ensures.found.1 }) c.in_err-b.ensures.reads })
+
+pub conditional-returns-in_err-to-2 : goal.conditional-returns-in_err-to-2
+conditional-returns-in_err-to-2 t c =
+    let p = err_from_is_err_and c.from_residual-in_err-to-2.result c.from_residual-in_err-to-2.ensures.1 in
+    rw (p.1, p.2) (record { moves = tt; reads = else-lost (record { is = c.requires.begins }) c.in_ok-a.ensures.reads (record { is = c.in_ok-to.ensures.found.1 }) c.in_ok-b.ensures.reads c.in_err-to-2.ensures.found })
+
+pub conditional-returns-in_err-c : goal.conditional-returns-in_err-c
+conditional-returns-in_err-c t c =
+    let p = err_from_is_err_and c.from_residual-in_err-c.result c.from_residual-in_err-c.ensures.1 in
+    rw (p.1, p.2) (record { moves = tt; reads = alternative-lost (record { is = c.requires.begins }) c.in_ok-a.ensures.reads (record { is = c.in_ok-to.ensures.found.1 }) c.in_ok-b.ensures.reads (record { is = c.in_ok-to-2.ensures.found.1 }) c.in_err-c.ensures.reads })
+
+pub conditional-returns-in_err-to-3 : goal.conditional-returns-in_err-to-3
+conditional-returns-in_err-to-3 t c =
+    let p = err_from_is_err_and c.from_residual-in_err-to-3.result c.from_residual-in_err-to-3.ensures.1 in
+    rw (p.1, p.2) (record { moves = tt; reads = if-end-lost (record { is = c.requires.begins }) c.in_ok-a.ensures.reads (record { is = c.in_ok-to.ensures.found.1 }) c.in_ok-b.ensures.reads (record { is = c.in_ok-to-2.ensures.found.1 }) c.in_ok-c.ensures.reads c.in_err-to-3.ensures.found })
+
+pub conditional-returns : goal.conditional-returns
+conditional-returns t c =
+    let ma = c.in_ok-a.ensures.moves in
+    let mb = c.in_ok-b.ensures.moves in
+    let mc = c.in_ok-c.ensures.moves in
+    let ia = c.in_ok-to.ensures.inside in
+    let ib = c.in_ok-to-2.ensures.inside in
+    let ic = c.in_ok-to-3.ensures.inside in
+    let put = c.put.ensures.put in
+    record {
+      moves = if-moves c.requires.bounds ma ia mb ib mc ic put;
+      reads = if-made (record { is = c.requires.begins }) c.in_ok-a.ensures.reads (record { is = c.in_ok-to.ensures.found.1 }) c.in_ok-b.ensures.reads (record { is = c.in_ok-to-2.ensures.found.1 }) c.in_ok-c.ensures.reads (record { is = c.in_ok-to-3.ensures.found.1 }) put ma mb mc
+          (c.deeper.ensures ∙ ap around (c.beside-2.ensures ∙ ap (side_by_side c.in_ok-a.a.size) c.beside.ensures));
+    }
+
+-- repetition
+
+pub repetition-returns-in_err-a : goal.repetition-returns-in_err-a
+repetition-returns-in_err-a t c =
+    let p = err_from_is_err_and c.from_residual.result c.from_residual.ensures.1 in
+    rw (p.1, p.2) (record { moves = tt; reads = guard-lost (record { is = c.requires.begins }) c.in_err-a.ensures.reads })
+
+pub repetition-returns-in_err-to : goal.repetition-returns-in_err-to
+repetition-returns-in_err-to t c =
+    let p = err_from_is_err_and c.from_residual-in_err-to.result c.from_residual-in_err-to.ensures.1 in
+    rw (p.1, p.2) (record { moves = tt; reads = do-lost (record { is = c.requires.begins }) c.in_ok-a.ensures.reads c.in_err-to.ensures.found })
+
+pub repetition-returns-in_err-b : goal.repetition-returns-in_err-b
+repetition-returns-in_err-b t c =
+    let p = err_from_is_err_and c.from_residual-in_err-b.result c.from_residual-in_err-b.ensures.1 in
+    rw (p.1, p.2) (record { moves = tt; reads = loop-lost (record { is = c.requires.begins }) c.in_ok-a.ensures.reads (record { is = c.in_ok-to.ensures.found.1 }) c.in_err-b.ensures.reads })
+
+pub repetition-returns-in_err-to-2 : goal.repetition-returns-in_err-to-2
+repetition-returns-in_err-to-2 t c =
+    let p = err_from_is_err_and c.from_residual-in_err-to-2.result c.from_residual-in_err-to-2.ensures.1 in
+    rw (p.1, p.2) (record { moves = tt; reads = while-end-lost (record { is = c.requires.begins }) c.in_ok-a.ensures.reads (record { is = c.in_ok-to.ensures.found.1 }) c.in_ok-b.ensures.reads c.in_err-to-2.ensures.found })
+
+pub repetition-returns : goal.repetition-returns
+repetition-returns t c =
+    let ma = c.in_ok-a.ensures.moves in
+    let mb = c.in_ok-b.ensures.moves in
+    let ia = c.in_ok-to.ensures.inside in
+    let ib = c.in_ok-to-2.ensures.inside in
+    let put = c.put.ensures.put in
+    record {
+      moves = while-moves c.requires.bounds ma ia mb ib put;
+      reads = while-made (record { is = c.requires.begins }) c.in_ok-a.ensures.reads (record { is = c.in_ok-to.ensures.found.1 }) c.in_ok-b.ensures.reads (record { is = c.in_ok-to-2.ensures.found.1 }) put ma mb (c.deeper.ensures ∙ ap around c.beside.ensures);
+    }
+
+-- creation
+
+pub creation-returns-in_err-class : goal.creation-returns-in_err-class
+creation-returns-in_err-class t c =
+    let p = err_from_is_err_and c.from_residual.result c.from_residual.ensures.1 in
+    rw (p.1, p.2) (record { moves = tt; reads = class-lost (record { is = c.requires.begins }) c.in_err-class.ensures.found })
+
+pub creation-returns-in_err-open : goal.creation-returns-in_err-open
+creation-returns-in_err-open t c =
+    let p = err_from_is_err_and c.from_residual-in_err-open.result c.from_residual-in_err-open.ensures.1 in
+    rw (p.1, p.2) (record { moves = tt; reads = new-open-lost (record { is = c.requires.begins }) (record { is = c.in_ok-class.ensures.found }) c.in_err-open.ensures.found })
+
+pub creation-returns-in_err-given : goal.creation-returns-in_err-given
+creation-returns-in_err-given t c =
+    let p = err_from_is_err_and c.from_residual-in_err-given.result c.from_residual-in_err-given.ensures.1 in
+    rw (p.1, p.2) (record { moves = tt; reads = new-args-lost (record { is = c.requires.begins }) (record { is = c.in_ok-class.ensures.found }) (record { is = c.in_ok-open.ensures.found.1 }) c.in_err-given.ensures.reads })
+
+pub creation-returns : goal.creation-returns
+creation-returns t c =
+    let ic = c.in_ok-class.ensures.inside in
+    let io = c.in_ok-open.ensures.inside in
+    let mg = c.in_ok-given.ensures.moves in
+    let put = c.put.ensures.put in
+    record {
+      moves = new-moves c.requires.bounds ic io mg put;
+      reads = new-made (record { is = c.requires.begins }) (record { is = c.in_ok-class.ensures.found }) (record { is = c.in_ok-open.ensures.found.1 }) c.in_ok-given.ensures.reads put c.span.ensures.where_they_lie mg (omega arith) (omega arith) c.deeper.ensures;
+    }
+
+-- test
+
+pub test-returns-in_err-class : goal.test-returns-in_err-class
+test-returns-in_err-class t c =
+    let A = c.loop-to.invariant.1.parsed in
+    let p = err_from_is_err_and c.from_residual-in_err-class.result c.from_residual-in_err-class.ensures.1 in
+    rw (p.1, p.2) (record { moves = tt; reads = test-class-lost A (record { is = c.in-Some.ensures.found.1 }) c.in_err-class.ensures.found })
+
+pub test-loop-to-preserved : goal.test-loop-to-preserved
+test-loop-to-preserved t c =
+    let i = c.in-Some.ensures.inside in
+    let ic = c.in_ok-class.ensures.inside in
+    let mg = c.loop-to.invariant.0 in
+    let put = c.put-g.ensures.put in (
+      test-moves mg i ic put,
+      test-made c.loop-to.invariant.1.parsed (record { is = c.in-Some.ensures.found.1 }) (record { is = c.in_ok-class.ensures.found }) put c.span.ensures.where_they_lie mg (omega arith) (omega arith) c.deeper.ensures,
+    )
+
+-- operand
+
+pub operand-returns-in_err-method : goal.operand-returns-in_err-method
+operand-returns-in_err-method t c =
+    let A = c.loop-to.invariant.1 in
+    let p = err_from_is_err_and c.from_residual-in_err-method.result c.from_residual-in_err-method.ensures.1 in
+    rw (p.1, p.2) (record { moves = tt; reads = method-lost A (record { is = c.in-Some.ensures.found.1 }) c.in_err-method.ensures.found })
+
+pub operand-returns-in_err-open : goal.operand-returns-in_err-open
+operand-returns-in_err-open t c =
+    let A = c.loop-to.invariant.1 in
+    let p = err_from_is_err_and c.from_residual-in_err-open.result c.from_residual-in_err-open.ensures.1 in
+    rw (p.1, p.2) (record { moves = tt; reads = call-open-lost A (record { is = c.in-Some.ensures.found.1 }) (record { is = c.in_ok-method.ensures.found }) c.in_err-open.ensures.found })
+
+pub operand-returns-in_err-given : goal.operand-returns-in_err-given
+operand-returns-in_err-given t c =
+    let A = c.loop-to.invariant.1 in
+    let p = err_from_is_err_and c.from_residual-in_err-given.result c.from_residual-in_err-given.ensures.1 in
+    rw (p.1, p.2) (record { moves = tt; reads = call-args-lost A (record { is = c.in-Some.ensures.found.1 }) (record { is = c.in_ok-method.ensures.found }) (record { is = c.in_ok-open.ensures.found.1 }) c.in_err-given.ensures.reads })
+
+pub operand-loop-to-preserved : goal.operand-loop-to-preserved
+operand-loop-to-preserved t c =
+    let i = c.in-Some.ensures.inside in
+    let im = c.in_ok-method.ensures.inside in
+    let io = c.in_ok-open.ensures.inside in
+    let mg = c.loop-to.invariant.0 in
+    let mx = c.in_ok-given.ensures.moves in
+    let put = c.put-g.ensures.put in (
+      call-moves mg i im io mx put,
+      call-made c.loop-to.invariant.1 (record { is = c.in-Some.ensures.found.1 }) (record { is = c.in_ok-method.ensures.found }) (record { is = c.in_ok-open.ensures.found.1 }) c.in_ok-given.ensures.reads put c.span.ensures.where_they_lie mg mx (omega arith) (omega arith) (c.deeper.ensures ∙ ap around c.beside.ensures),
+    )
+
+-- primary
+pub primary-returns-in-None : goal.primary-returns-in-None
+primary-returns-in-None t c = record { moves = tt; reads = end-lost c.in-None.ensures.shows }
+
+pub primary-returns-in-Sign : goal.primary-returns-in-Sign
+primary-returns-in-Sign t c =
+    let s = c.in-Some.sight in
+    record { moves = tt; reads = token-lost (record { is = c.in-Some.ensures.shows ∙ ap (λ z. shown c.args.self.bytes.now z s.from s.to) c.in-Sign.is }) (idle-sign _) }
+
+-- keyed
+pub keyed-returns-in-Nil : goal.keyed-returns-in-Nil
+keyed-returns-in-Nil t c =
+    let s = c.args.sight in
+    let put = c.leaf.ensures.put in
+    record {
+      moves = leaf-moves c.requires.few c.requires.bounds put;
+      reads = leaf-made (Expr.nil s.from) (record { is = c.requires.begins ∙ ap (λ z. shown c.args.self.bytes.now (sort.Word z) s.from s.to) c.in-Nil.is })
+          (omega arith) (λ k. refl) (λ ns. refl) (λ u i. let z : ◌≡◌ {A = ℕ} 0 1 = cc in never z) refl put refl (plain-sized (Expr.nil s.from) refl refl tt (omega arith) (omega arith)) (λ ns k. k) (λ mem lies is. is);
+    }
+
+pub keyed-returns-in-SelfWord : goal.keyed-returns-in-SelfWord
+keyed-returns-in-SelfWord t c =
+    let s = c.args.sight in
+    let put = c.leaf-in-SelfWord.ensures.put in
+    record {
+      moves = leaf-moves c.requires.few c.requires.bounds put;
+      reads = leaf-made (Expr.self s.from) (record { is = c.requires.begins ∙ ap (λ z. shown c.args.self.bytes.now (sort.Word z) s.from s.to) c.in-SelfWord.is })
+          (omega arith) (λ k. refl) (λ ns. refl) (λ u i. let z : ◌≡◌ {A = ℕ} 0 1 = cc in never z) refl put refl (plain-sized (Expr.self s.from) refl refl tt (omega arith) (omega arith)) (λ ns k. k) (λ mem lies is. is);
+    }
+
+pub keyed-returns-in_default : goal.keyed-returns-in_default
+keyed-returns-in_default t c =
+    record {
+      moves = tt;
+      reads = token-lost (record { is = c.requires.begins }) (idle-word c.args.keyword c.in_default.not-If c.in_default.not-While c.in_default.not-New c.in_default.not-Nil c.in_default.not-SelfWord);
+    }
+
+-- arguments
+pub arguments-returns-in-Some : goal.arguments-returns-in-Some
+arguments-returns-in-Some t c =
+    let i = c.in-Some.ensures.inside in
+    let d = c.closed.ensures.as_given in
+    record {
+      moves = none_moves (ap (λ z. z.arguments.count) c.none-none.ensures) c.requires.few i d;
+      reads = none_made (record { is = c.in-Some.ensures.found.1 }) c.none-none.ensures d;
+    }
+
+pub arguments-returns-in_err-e : goal.arguments-returns-in_err-e
+arguments-returns-in_err-e t c =
+    let p = err_from_is_err_and c.from_residual.result c.from_residual.ensures.1 in
+    rw (p.1, p.2) (record { moves = tt; reads = first-lost c.in_default.ensures.found c.in_err-e.ensures.reads })
+
+pub arguments-returns-in_err-e-2 : goal.arguments-returns-in_err-e-2
+arguments-returns-in_err-e-2 t c =
+    let A = c.loop-to.invariant.1 in
+    let p = err_from_is_err_and c.from_residual-in_err-e-2.result c.from_residual-in_err-e-2.ensures.1 in
+    rw (p.1, p.2) (record { moves = tt; reads = next-lost A (record { is = c.in-Some-after.ensures.found.1 }) c.in_err-e-2.ensures.reads })
+
+pub arguments-returns-in_err-to : goal.arguments-returns-in_err-to
+arguments-returns-in_err-to t c =
+    let A = c.loop-to.invariant.1 in
+    let p = err_from_is_err_and c.from_residual-in_err-to.result c.from_residual-in_err-to.ensures.1 in
+    rw (p.1, p.2) (record { moves = tt; reads = close-lost A c.in_default-after.ensures.found c.in_err-to.ensures.found })
+
+pub arguments-loop-to-init : goal.arguments-loop-to-init
+arguments-loop-to-init t c =
+    let me = c.in_ok-e.ensures.moves in
+    let w = c.with-given.ensures.one_more in (
+      first-moves (ap (λ z. z.arguments.count) c.none-none.ensures) me w,
+      first_made c.in_default.ensures.found c.none-none.ensures c.in_ok-e.ensures.reads w me,
+    )
+
+pub arguments-loop-to-preserved : goal.arguments-loop-to-preserved
+arguments-loop-to-preserved t c =
+    let i = c.in-Some-after.ensures.inside in
+    let mg = c.loop-to.invariant.0 in
+    let me = c.in_ok-e-2.ensures.moves in
+    let w = c.with-given-in-Some-after.ensures.one_more in (
+      next-moves mg i me w,
+      next-made c.loop-to.invariant.1 (record { is = c.in-Some-after.ensures.found.1 }) c.in_ok-e-2.ensures.reads w me mg.more,
+    )
+
+pub arguments-returns : goal.arguments-returns
+arguments-returns t c =
+    let A = c.loop-to.invariant.1 in
+    let mg = c.loop-to.invariant.0 in
+    let i = c.in_ok-to.ensures.inside in
+    let d = c.closed-2.ensures.as_given in
+    let e = ap (λ z. z.count) d.same in
+    record {
+      moves = close-moves mg i d;
+      reads = args-made A (record { is = c.in_ok-to.ensures.found.1 }) d;
+    }

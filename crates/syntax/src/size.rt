@@ -1,0 +1,78 @@
+// What the parser measures of expressions and of lists of them.
+ghost use Rattle.std.specs.Prelude.{◌≡◌, ◌<◌, true, [], ◌∷◌};
+ghost use Rattle.syntax.specs.Sizes.{around, side_by_side};
+ghost use Rattle.syntax.specs.Parsing.{With, Closed};
+
+use crate::read::{Given, Got, Size};
+use nodes::node::{ARGUMENTS, Arguments};
+
+impl Size {
+    // Of an expression of one token.
+    pub fn leaf(small: bool) -> Size
+        ensures { result ≡ record { depth = 1; small = small } }
+    {
+        Size { depth: 1, small }
+    }
+
+    // Of what stands around it.
+    pub fn deeper(self) -> Size
+        ensures { result ≡ around self }
+    {
+        Size {
+            depth: self.depth.saturating_add(1),
+            small: self.small,
+        }
+    }
+
+    // Of two parts side by side.
+    pub fn beside(self, other: Size) -> Size
+        ensures { result ≡ side_by_side self other }
+    {
+        Size {
+            depth: self.depth.max(other.depth),
+            small: self.small && other.small,
+        }
+    }
+}
+
+impl Given {
+    pub fn none(to: u16) -> Given
+        ensures { result ≡ record { to = to; arguments = record { count = 0; roots = 0 ∷ 0 ∷ 0 ∷ 0 ∷ [] }; size = record { depth = 0; small = true } } }
+    {
+        Given {
+            to,
+            arguments: Arguments::none(),
+            size: Size {
+                depth: 0,
+                small: true,
+            },
+        }
+    }
+
+    // One more argument.
+    pub fn with(self, e: Got) -> Given
+        requires { self.arguments.count < e.to }
+        ensures one_more { With self e result }
+    {
+        Given {
+            to: e.to,
+            arguments: self.arguments.with(e.root),
+            size: self.size.beside(e.size),
+        }
+    }
+
+    // All of them, read up to their `)`.
+    pub fn closed(self, to: u16) -> Given
+        ensures as_given { Closed self to result }
+    {
+        let few = self.arguments.count <= ARGUMENTS;
+        Given {
+            to,
+            arguments: self.arguments,
+            size: Size {
+                depth: self.size.depth,
+                small: few && self.size.small,
+            },
+        }
+    }
+}

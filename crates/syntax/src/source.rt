@@ -1,0 +1,47 @@
+// A text that is read: short enough, and every byte but a blank belongs to a token.
+ghost use Rattle.std.specs.Prelude.{◌≡◌, ◌+◌, ◌-◌, ◌%◌, ◌^◌, ◌≤◌, length, IfOk, MatchResult};
+ghost use Rattle.nodes.specs.Trees.{span_of};
+ghost use Rattle.syntax.specs.Left.{left};
+ghost use Rattle.syntax.specs.Breaks.{Lexes};
+ghost use Rattle.syntax.specs.Whole.{Unlexed};
+
+use crate::limits::TEXT;
+use lexer::check_text;
+use nodes::refusal::Refusal;
+use text::span::{Space, Span};
+
+// The bytes of a text, and where it begins in the memory that its names are spans of.
+#[derive(Clone, Copy)]
+pub struct Text<'t> {
+    pub(crate) bytes: &'t [u8],
+    base: u16,
+    ghost short: { length bytes.now ≤ 4096 },
+}
+
+impl<'t> Text<'t> {
+    pub fn new(bytes: &'t [u8], base: u16) -> Result<Text<'t>, Refusal>
+        ensures lexed { MatchResult result (λ _. Lexes bytes.now (left bytes.now 0)) (λ f. Unlexed bytes.now f) }
+        ensures same { IfOk result (λ t. (t.bytes.now ≡ bytes.now) × (t.base ≡ base)) }
+    {
+        if bytes.len() > TEXT {
+            return Err(Refusal::TooLong);
+        }
+        match check_text(bytes) {
+            Ok(_) => Ok(Text { bytes, base }),
+            // no `From`: it would have to cut a place that no u16 holds, which no place in a short text is
+            Err(stray) => Err(Refusal::Stray(stray.0 as u16)),
+        }
+    }
+
+    // The bytes `from` up to `to`, in the memory.
+    pub fn span(self, from: u16, to: u16) -> Span
+        requires { from ≤ to }
+        ensures where_they_lie { result ≡ span_of self.entry.base from to }
+    {
+        Span {
+            space: Space::Texts,
+            start: self.base.wrapping_add(from),
+            len: to - from,
+        }
+    }
+}
