@@ -2,7 +2,7 @@
 use anyhow::anyhow;
 use buckets::{BucketStore, UNLINKED, UNUSED};
 use calls::frame::{Calls, Frame};
-use code::table::{Full, Open, Place, Record, Sealed};
+use code::table::{Full, Open, Place, Record, Sealed, UNLAID};
 use effects::spent::Spent;
 use list::ListStore;
 use machine::instruction::{Instruction, Offset, Register};
@@ -81,26 +81,15 @@ const ONE_MORE: [Instruction; 3] = [
     Instruction::Ret(A),
 ];
 
-fn lay(open: &mut Open, records: &mut [Record], code: &[Instruction]) -> Result<(), Full> {
-    for i in 0..code.len() {
-        let record = Record {
-            instruction: code[i],
-            origin: 0,
-        };
-        open.lay(records, record)?;
-    }
-    Ok(())
-}
-
 fn laid(
     records: &mut [Record],
     main: &[Instruction],
     callee: &[Instruction],
 ) -> Result<Sealed, Full> {
     let mut open = Open::new();
-    lay(&mut open, records, main)?;
+    open.lay_all(records, main, 0)?;
     open.next_function()?;
-    lay(&mut open, records, callee)?;
+    open.lay_all(records, callee, 0)?;
     Ok(open.seal())
 }
 
@@ -146,11 +135,7 @@ fn time<S: Store>(
     main: &[Instruction],
     store: &mut S,
 ) -> anyhow::Result<()> {
-    let blank = Record {
-        instruction: Instruction::Halt(A),
-        origin: 0,
-    };
-    let mut records = [blank; 16];
+    let mut records = [UNLAID; 16];
     let Ok(code) = laid(&mut records, main, &ONE_MORE) else {
         return Err(anyhow!("the code table is full"));
     };

@@ -23,11 +23,21 @@ fn key(i: u16) -> Value {
     }
 }
 
+// Numbers that look random: each is made of the one before.
+#[derive(Drop)]
+struct Random(u32);
+
+impl Random {
+    fn next(&mut self) -> u32 {
+        self.0 = self.0.wrapping_mul(1664525).wrapping_add(1013904223);
+        self.0
+    }
+}
+
 fn scramble(texts: &mut [u8]) {
-    let mut random: u32 = 7;
-    for i in 0..texts.len() {
-        random = random.wrapping_mul(1664525).wrapping_add(1013904223);
-        texts[i] = (random >> 24) as u8;
+    let mut random = Random(7);
+    for byte in texts {
+        *byte = (random.next() >> 24) as u8;
     }
 }
 
@@ -43,23 +53,16 @@ fn fill<S: Store>(store: &mut S, pairs: u16, bytes: Bytes<'_, '_, '_>) {
 
 // Of the operations a quarter are writes, a quarter tests and half reads; answers how many found their key.
 fn work<S: Store>(store: &mut S, pairs: u16, operations: u32, bytes: Bytes<'_, '_, '_>) -> u32 {
-    let mut random: u32 = 1;
+    let mut random = Random(1);
     let mut found: u32 = 0;
     for n in 0..operations {
-        random = random.wrapping_mul(1664525).wrapping_add(1013904223);
-        let high = (random >> 16) as u16;
+        let high = (random.next() >> 16) as u16;
         let i = if pairs == 0 { 0 } else { high % pairs };
         let table = Location(i % TABLES);
         let present = match n % 4 {
             0 => store.write(table, key(i), Value::Int(1), bytes).is_ok(),
-            1 => match store.has(table, key(i), bytes) {
-                Ok(present) => present,
-                Err(_) => false,
-            },
-            _ => match store.read(table, key(i), bytes) {
-                Ok(Some(_)) => true,
-                _ => false,
-            },
+            1 => store.has(table, key(i), bytes).unwrap_or(false),
+            _ => matches!(store.read(table, key(i), bytes), Ok(Some(_))),
         };
         if present {
             found = found.saturating_add(1);

@@ -22,6 +22,12 @@ pub struct Record {
     pub origin: u16,
 }
 
+// What a table holds where nothing was laid.
+pub const UNLAID: Record = Record {
+    instruction: Instruction::Ret(Register(0)),
+    origin: 0,
+};
+
 // The records of a function.
 #[derive(Clone, Copy, Debug, Default, PartialEq, Eq)]
 pub struct Extent {

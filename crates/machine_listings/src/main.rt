@@ -4,11 +4,10 @@
 use crate::listings::{FIXED, LISTINGS, Listing};
 use buckets::{BucketStore, UNLINKED, UNUSED};
 use calls::frame::{Calls, Frame};
-use code::table::{Full, Open, Place, Record, Sealed};
+use code::table::{Full, Open, Place, Record, Sealed, UNLAID};
 use effects::spent::Spent;
 use list::ListStore;
 use machine::ending::Ending;
-use machine::instruction::{Instruction, Register};
 use operands::globals::Globals;
 use std::io;
 use store::Store;
@@ -31,35 +30,19 @@ const NO_FRAME: Frame = Frame {
     pc: Place(0),
 };
 
-const NO_RECORD: Record = Record {
-    instruction: Instruction::Ret(Register(0)),
-    origin: 0,
-};
-
-fn lay_all(open: &mut Open, records: &mut [Record], code: &[Instruction]) -> Result<(), Full> {
-    for i in 0..code.len() {
-        let record = Record {
-            instruction: code[i],
-            origin: 0,
-        };
-        open.lay(records, record)?;
-    }
-    Ok(())
-}
-
 // Both functions of a listing.
 fn lay(listing: Listing, records: &mut [Record]) -> Result<Sealed, Full> {
     let mut open = Open::new();
-    lay_all(&mut open, records, listing.main)?;
+    open.lay_all(records, listing.main, 0)?;
     open.next_function()?;
-    lay_all(&mut open, records, listing.other)?;
+    open.lay_all(records, listing.other, 0)?;
     Ok(open.seal())
 }
 
 fn show_end(rt: &HostRuntime, made: u32, ending: Ending, printed: &[u8]) -> io::Result<()> {
     print!(rt; "ending {} in {made} steps, printed \"", ending.number())?;
-    for i in 0..printed.len() {
-        print!(rt; "{}", printed[i] as char)?;
+    for byte in printed {
+        print!(rt; "{}", char::from(*byte))?;
     }
     print!(rt; "\"")
 }
@@ -108,7 +91,7 @@ fn run<S: Store>(
 }
 
 fn show(rt: &HostRuntime, listing: Listing) -> io::Result<()> {
-    let mut records = [NO_RECORD; 64];
+    let mut records = [UNLAID; 64];
     print!(rt; "{}: ", listing.name)?;
     let Ok(code) = lay(listing, &mut records) else {
         return println!(rt; "too little memory for code");
@@ -129,8 +112,8 @@ fn show(rt: &HostRuntime, listing: Listing) -> io::Result<()> {
 }
 
 fn main(rt: HostRuntime) -> io::Result<()> {
-    for i in 0..LISTINGS.len() {
-        show(&rt, LISTINGS[i])?;
+    for listing in LISTINGS {
+        show(&rt, listing)?;
     }
     Ok(())
 }

@@ -1,5 +1,5 @@
 // Laying code, one function behind another.
-ghost use Rattle.std.specs.Prelude.{◌≡◌, ℕ, ◌+◌, ◌<◌, ◌≢◌, false, List, [], ◌∷◌, ◌++◌, map, length, take, pos, is_ok, MatchResult, IfErr, OnErr, slice_index_or};
+ghost use Rattle.std.specs.Prelude.{◌≡◌, ℕ, suc, ◌+◌, ◌<◌, ◌≢◌, false, List, [], ◌∷◌, ◌++◌, map, length, take, pos, is_ok, MatchResult, OnOk, OnErr, slice_index_or, slice_set};
 ghost use Rattle.text.specs.Memory.{Memory};
 ghost use Rattle.machine.specs.Instr.{Instr, Program, instr};
 ghost use Rattle.code.specs.Programs.{meant, program_of};
@@ -40,6 +40,7 @@ impl Open {
     // One more record of the function under way.
     pub fn lay(&mut self, records: &mut [Record], item: Record) -> Result<(), Full>
         ensures refused { is_ok result ≡ has_room self.old (length records.old) }
+        ensures written { OnOk result ((end_of self.old.current < length records.old) × (records.new ≡ slice_set records.old (end_of self.old.current) item) × (end_of self.new.current ≡ suc (end_of self.old.current))) }
         ensures laid { (m : Memory) (P : Program) (c : List Instr) → Lays m records.old self.old P c → MatchResult result (λ _. Lays m records.new self.new P (c ++ meant m item ∷ [])) (λ _. Lays m records.new self.new P c) }
         ensures elsewhere { (i : ℕ) (d : Record) → i ≢ end_of self.old.current → slice_index_or records.new i d ≡ slice_index_or records.old i d }
         ensures kept_where_refused { OnErr result ((self.new ≡ self.old) × (records.new ≡ records.old)) }
@@ -65,6 +66,7 @@ impl Open {
         origin: u16,
     ) -> Result<(), Full>
         ensures laid { (m : Memory) (P : Program) (c : List Instr) → Lays m records.old self.old P c → MatchResult result (λ _. Lays m records.new self.new P (c ++ map (instr m) code.now)) (λ _. (k : ℕ) × (k < length code.now) × Lays m records.new self.new P (c ++ map (instr m) (take k code.now))) }
+        ensures of_the_origin { OnOk result ((i : ℕ) (d : Record) → i < length code.now → (slice_index_or records.new (end_of self.old.current + i) d).origin ≡ origin) }
         ensures refused { OnErr result (has_room self.new (length records.new) ≡ false) }
     {
         for instruction in code {

@@ -1,9 +1,14 @@
-use Rattle.std.proofs.Common.{List, ◌++◌, map, take}
+use Rattle.std.proofs.Common.{◌≡◌, ℕ, ◌+◌, ◌<◌, List, ◌++◌, map, take, get_or}
 use Rattle.text.specs.Memory.{Memory}
 use Rattle.machine.specs.Instr.{Instr, Program, instr}
-use Rattle.code.specs.Laying.{Lays}
+use Rattle.code.specs.declared.table.Record.{Record}
+use Rattle.code.specs.Laying.{end_of, Lays}
 use Rattle.code.proofs.table.Open.lay_all.Given as goal
 
 abbrev pub invariant-loop-instruction : goal.invariant-loop-instruction
 invariant-loop-instruction l =
-    (m : Memory) (P : Program) (c : List Instr) → Lays m l.fn.records l.fn.self P c → Lays m l.records l.self P (c ++ map (instr m) (take l.instruction-index l.code))
+    record {
+      laid : (m : Memory) (P : Program) (c : List Instr) → Lays m l.fn.records l.fn.self P c → Lays m l.records l.self P (c ++ map (instr m) (take l.instruction-index l.code));
+      here : end_of l.self.current ≡ end_of l.fn.self.current + l.instruction-index;
+      origins : (i : ℕ) (d : Record) → i < l.instruction-index → (get_or l.records (end_of l.fn.self.current + i) d).origin ≡ l.origin;
+    }
