@@ -50,10 +50,10 @@ both-laid xs made room one two u a b em er ea eb h =
     rw (em, er) (same_lists _ _ (search (rules, places)) (λ k d l. grind (arith, places)))
 
 -- what a concatenation leaves, where both strings are read from the bytes before u
-pub concat-laid : (m mm : Memory) (a b : Span) (xs made room one two : List ℕ) (u s : ℕ) → s ≡ u → xs ≡ m.made → made ≡ take s xs → room ≡ drop s xs → mm ≡ record { fixed = m.fixed; texts = m.texts; made = made } → one ≡ bytes_of mm a → two ≡ bytes_of mm b → made_end a ≤ u → made_end b ≤ u → u + (a.len + b.len) ≤ length m.made → made ++ (take a.len (one ++ drop a.len room) ++ (two ++ post_of a.len (a.len + b.len - a.len) (one ++ drop a.len room))) ≡ laid m.made u (bytes_of m a ++ bytes_of m b)
-concat-laid m mm a b xs made room one two u s es ex em er ey ea eb ha hb h =
-    let x : one ≡ bytes_of m a = rw (ea, ey, em, es, ex) (front-means m u a ha) in
-    let y : two ≡ bytes_of m b = rw (eb, ey, em, es, ex) (front-means m u b hb) in
+pub concat-laid : (m : Memory) (a b : Span) (xs made room one two : List ℕ) (u s : ℕ) → s ≡ u → xs ≡ m.made → made ≡ take s xs → room ≡ drop s xs → one ≡ bytes_of (record { fixed = m.fixed; texts = m.texts; made = made }) a → two ≡ bytes_of (record { fixed = m.fixed; texts = m.texts; made = made }) b → made_end a ≤ u → made_end b ≤ u → u + (a.len + b.len) ≤ length m.made → made ++ (take a.len (one ++ drop a.len room) ++ (two ++ post_of a.len (a.len + b.len - a.len) (one ++ drop a.len room))) ≡ laid m.made u (bytes_of m a ++ bytes_of m b)
+concat-laid m a b xs made room one two u s es ex em er ea eb ha hb h =
+    let x : one ≡ bytes_of m a = rw (ea, em, es, ex) (front-means m u a ha) in
+    let y : two ≡ bytes_of m b = rw (eb, em, es, ex) (front-means m u b hb) in
     let am = rw (es, ex) at em in
     let ar = rw (es, ex) at er in
     both-laid m.made made room one two u a.len b.len am ar (ap length x ∙ length-bytes_of m a) (ap length y ∙ length-bytes_of m b) h

@@ -17,8 +17,8 @@ use Rattle.effects.specs.Laid.{laid}
 abbrev pub memory_with : Literals → List ℕ → Memory
 memory_with l made = record { fixed = l.fixed.now; texts = l.texts.now; made = made }
 
--- the same lender's bytes, whatever they now are
-pub record SameBytes (b c : MutBor (List ℕ)) : Type 0 where
+-- the same lender's slice, whatever it now holds
+pub record SameSlice {X : Type 0} (b c : MutBor (List X)) : Type 0 where
   pub lender : c.ghost_name ≡ b.ghost_name
   pub long : length c.now ≡ length b.now
 

@@ -3,6 +3,7 @@ ghost use Rattle.std.specs.Prelude.{◌≡◌};
 ghost use Rattle.text.specs.Memory.{memory_of};
 ghost use Rattle.effects.specs.Spending.{memory_with};
 
+use crate::strings::Strings;
 use text::span::Bytes;
 
 #[derive(Clone, Copy)]
@@ -13,13 +14,13 @@ pub struct Literals<'f, 't> {
 
 impl<'f, 't> Literals<'f, 't> {
     // With the strings made, all bytes that a string can lie in.
-    pub fn with<'m>(self, made: &'m [u8]) -> Bytes<'f, 't, 'm>
-        ensures { memory_of result ≡ memory_with self.entry made.now }
+    pub fn with<'m>(self, strings: &'m Strings<'_>) -> Bytes<'f, 't, 'm>
+        ensures { memory_of result ≡ memory_with self.entry strings.now.bytes.now }
     {
         Bytes {
             fixed: self.fixed,
             texts: self.texts,
-            made,
+            made: strings.bytes,
         }
     }
 }

@@ -17,7 +17,7 @@ pub struct Output<'o> {
 }
 
 impl<'o> Output<'o> {
-    ghost use Rattle.effects.specs.Spending.{SameBytes, Prints, Room};
+    ghost use Rattle.effects.specs.Spending.{SameSlice, Prints, Room};
 
     pub fn new(bytes: &'o mut [u8]) -> Output<'o>
         ensures none { result.printed ≡ 0 }
@@ -47,7 +47,7 @@ impl<'o> Output<'o> {
     // Prints what fits; what does not leaves everything as it was.
     pub fn print_integer(&mut self, n: i32) -> Result<(), Ending>
         ensures printed { Prints (signed_decimal n) self.old result self.new }
-        ensures lent { SameBytes self.old.bytes self.new.bytes }
+        ensures lent { SameSlice self.old.bytes self.new.bytes }
     {
         let mut buffer = Buffer::new();
         let digits = buffer.format(n).as_bytes();
@@ -59,7 +59,7 @@ impl<'o> Output<'o> {
 
     pub fn print_string(&mut self, string: Span, bytes: Bytes<'_, '_, '_>) -> Result<(), Ending>
         ensures printed { Prints (bytes_of (memory_of bytes.entry) string) self.old result self.new }
-        ensures lent { SameBytes self.old.bytes self.new.bytes }
+        ensures lent { SameSlice self.old.bytes self.new.bytes }
     {
         let end = self.end(string.len as usize)?;
         copy_string(string, bytes, &mut self.bytes[self.printed..end]);

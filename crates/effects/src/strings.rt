@@ -9,7 +9,7 @@ use crate::copying::copy_string;
 use crate::literals::Literals;
 use itoa::Buffer;
 use machine::ending::Ending;
-use text::span::{Space, Span};
+use text::span::{Bytes, Space, Span};
 
 pub const STRINGS: u16 = 2048;
 
@@ -26,7 +26,7 @@ pub struct Strings<'m> {
 }
 
 impl<'m> Strings<'m> {
-    ghost use Rattle.effects.specs.Spending.{memory_with, SameBytes, Charges, Behind, Makes};
+    ghost use Rattle.effects.specs.Spending.{memory_with, SameSlice, Charges, Behind, Makes};
 
     pub fn new(bytes: &'m mut [u8]) -> Strings<'m>
         ensures none { (result.count ≡ 0) × (result.used ≡ 0) }
@@ -70,7 +70,7 @@ impl<'m> Strings<'m> {
     // An integer as a string.
     pub fn to_s(&mut self, n: i32) -> Result<Span, Ending>
         ensures made { most_string_bytes ≤ length self.old.bytes.now → Makes (signed_decimal n) self.old result self.new }
-        ensures lent { SameBytes self.old.bytes self.new.bytes }
+        ensures lent { SameSlice self.old.bytes self.new.bytes }
     {
         let mut buffer = Buffer::new();
         let digits = buffer.format(n).as_bytes();
@@ -83,14 +83,18 @@ impl<'m> Strings<'m> {
     // Two strings one behind the other.
     pub fn concat(&mut self, a: Span, b: Span, literals: Literals<'_, '_>) -> Result<Span, Ending>
         ensures made { most_string_bytes ≤ length self.old.bytes.now → made_end a ≤ self.old.used → made_end b ≤ self.old.used → Makes (bytes_of (memory_with literals.entry self.old.bytes.now) a ++ bytes_of (memory_with literals.entry self.old.bytes.now) b) self.old result self.new }
-        ensures lent { SameBytes self.old.bytes self.new.bytes }
+        ensures lent { SameSlice self.old.bytes self.new.bytes }
     {
         let m = a.len as usize;
         let n = b.len as usize;
         let string = self.add(m + n)?;
         let all = &mut *self.bytes;
         let (made, room) = all.split_at_mut(string.start as usize);
-        let bytes = literals.with(made);
+        let bytes = Bytes {
+            fixed: literals.fixed,
+            texts: literals.texts,
+            made,
+        };
         copy_string(a, bytes, &mut room[..m]);
         copy_string(b, bytes, &mut room[m..m + n]);
         Ok(string)
