@@ -9,21 +9,18 @@ ghost use Rattle.code.specs.Programs.{program_of};
 ghost use Rattle.calls.specs.Frames.{callers_in, LiveWithin, Sized, SameFrames, Moved, target_of, registered, PlacedCall};
 
 use crate::frame::{Frame, Frames, REGISTERS};
-use crate::program::Program;
+use crate::program::Code;
 use code::table::{Place, Record};
 use machine::ending::Ending;
 use machine::instruction::{Instruction, Register};
 use store::value::Value;
 
 // The register that takes the answer of the call that a frame waits for.
-fn target(program: Program<'_, '_, '_>, frame: Frame) -> Result<Register, Ending>
-    ensures of_the_call { (m : Memory) → registered result ≡ target_of (fetch (program_of m program.entry.code.now program.entry.records.now) frame.function.0 frame.pc.0) }
+fn target(code: Code<'_, '_, '_>, frame: Frame) -> Result<Register, Ending>
+    ensures of_the_call { (m : Memory) → registered result ≡ target_of (fetch (program_of m code.entry.sealed.now code.entry.records.now) frame.function.0 frame.pc.0) }
     ensures placed { PlacedCall frame.pc.0 result }
 {
-    match program
-        .code
-        .fetch(program.records, frame.function, frame.pc)
-    {
+    match code.sealed.fetch(code.records, frame.function, frame.pc) {
         Some(
             Record {
                 instruction: Instruction::Call(_, first, _),
@@ -36,16 +33,16 @@ fn target(program: Program<'_, '_, '_>, frame: Frame) -> Result<Register, Ending
 
 impl Frames<'_, '_> {
     // Back to the caller with an answer; without a caller the run has finished.
-    pub fn leave(&mut self, answer: Value, program: Program<'_, '_, '_>) -> Result<(), Ending>
+    pub fn leave(&mut self, answer: Value, code: Code<'_, '_, '_>) -> Result<(), Ending>
         requires { Sized self.old }
-        ensures left { (m : Memory) (W : World) → Moved m W (return (program_of m program.entry.code.now program.entry.records.now) (meaning m answer) (callers_in m self.old) W) result self.old self.new }
+        ensures left { (m : Memory) (W : World) → Moved m W (return (program_of m code.entry.sealed.now code.entry.records.now) (meaning m answer) (callers_in m self.old) W) result self.old self.new }
         ensures within { (u : ℕ) → LiveWithin u self.old → end_of answer ≤ u → LiveWithin u self.new }
         ensures lent { SameFrames self.old self.new }
     {
         let Some(caller) = self.callers.top() else {
             return Err(Ending::Finished);
         };
-        let to = target(program, caller)?.0 as usize;
+        let to = target(code, caller)?.0 as usize;
         if to >= REGISTERS {
             return Err(Ending::Stuck);
         }

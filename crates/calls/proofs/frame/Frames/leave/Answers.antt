@@ -18,7 +18,7 @@ pub returns-in_default-clause-left : goal.returns-in_default-clause-left
 returns-in_default-clause-left c =
     let a = c.args in
     let f = a.self.now in
-    λ m W. (leave-last (program_of m a.program.code.now a.program.records.now) m W f.registers.now (held f.callers) (waiting f) a.answer (ap length c.in_default.ensures), refl)
+    λ m W. (leave-last (program_of m a.code.sealed.now a.code.records.now) m W f.registers.now (held f.callers) (waiting f) a.answer (ap length c.in_default.ensures), refl)
 
 pub returns-in_err-to-clause-left : goal.returns-in_err-to-clause-left
 returns-in_err-to-clause-left c =
@@ -29,7 +29,7 @@ returns-in_err-to-clause-left c =
     let x = c.in-Some.caller in
     let top = c.in-Some.ensures in
     rw (p.1, p.2)
-    (λ m W. (leave-stuck (program_of m a.program.code.now a.program.records.now) m W f.registers.now fs (waiting f) a.answer (length (front fs)) (one-less fs x top) _ (c.in_err-to.ensures.of_the_call m ∙ call-of (program_of m a.program.code.now a.program.records.now) fs (length (front fs)) x (latest fs x top)), refl))
+    (λ m W. (leave-stuck (program_of m a.code.sealed.now a.code.records.now) m W f.registers.now fs (waiting f) a.answer (length (front fs)) (one-less fs x top) _ (c.in_err-to.ensures.of_the_call m ∙ call-of (program_of m a.code.sealed.now a.code.records.now) fs (length (front fs)) x (latest fs x top)), refl))
 
 pub returns-then-to-ge-REGISTERS-clause-left : goal.returns-then-to-ge-REGISTERS-clause-left
 returns-then-to-ge-REGISTERS-clause-left c =
@@ -38,7 +38,7 @@ returns-then-to-ge-REGISTERS-clause-left c =
     let fs = held f.callers in
     let x = c.in-Some.caller in
     let top = c.in-Some.ensures in
-    λ m W. (leave-nowhere (program_of m a.program.code.now a.program.records.now) m W f.registers.now fs (waiting f) a.answer (length (front fs)) (one-less fs x top) _ (c.in_ok-to.ensures.of_the_call m ∙ call-of (program_of m a.program.code.now a.program.records.now) fs (length (front fs)) x (latest fs x top)) c.if-to-ge-REGISTERS.true, refl)
+    λ m W. (leave-nowhere (program_of m a.code.sealed.now a.code.records.now) m W f.registers.now fs (waiting f) a.answer (length (front fs)) (one-less fs x top) _ (c.in_ok-to.ensures.of_the_call m ∙ call-of (program_of m a.code.sealed.now a.code.records.now) fs (length (front fs)) x (latest fs x top)) c.if-to-ge-REGISTERS.true, refl)
 
 pub returns-clause-left : goal.returns-clause-left
 returns-clause-left c =
@@ -54,7 +54,7 @@ returns-clause-left c =
     let sized = c.requires.registers in
     let gs = popped fs x top c.pop.result _ c.pop.ensures.held in
     let base = c.base-base.ensures ∙ ap (λ (z : List Frame). registers_per_frame * length z) gs in
-    λ m W. leave-goes (program_of m a.program.code.now a.program.records.now) m W xs fs (waiting f) a.answer k less _ (c.in_ok-to.ensures.of_the_call m ∙ call-of (program_of m a.program.code.now a.program.records.now) fs k x (latest fs x top)) _ _ _ _ c.if-to-ge-REGISTERS.false (omega arith) (ap (λ b. set xs (b + c.in_ok-to.field-0.0) (Some a.answer)) base) (ap (λ (f : Frame). f.function.0) (latest fs x top)) (add-one _ ∙ ap (λ (f : Frame). suc f.pc.0) (latest fs x top)) (ap length gs) (below fs x top _ gs)
+    λ m W. leave-goes (program_of m a.code.sealed.now a.code.records.now) m W xs fs (waiting f) a.answer k less _ (c.in_ok-to.ensures.of_the_call m ∙ call-of (program_of m a.code.sealed.now a.code.records.now) fs k x (latest fs x top)) _ _ _ _ c.if-to-ge-REGISTERS.false (omega arith) (ap (λ b. set xs (b + c.in_ok-to.field-0.0) (Some a.answer)) base) (ap (λ (f : Frame). f.function.0) (latest fs x top)) (add-one _ ∙ ap (λ (f : Frame). suc f.pc.0) (latest fs x top)) (ap length gs) (below fs x top _ gs)
 
 pub returns-clause-within : goal.returns-clause-within
 returns-clause-within c =
