@@ -11,10 +11,11 @@ use crate::passed::Passed;
 use code::table::Place;
 use effects::literals::Literals;
 use effects::spent::Spent;
-use machine::builtin::Builtin;
+use machine::builtin::{Builtin, NotBuiltin};
 use machine::ending::Ending;
 use machine::instruction::Register;
-use operands::registers::function;
+use operands::registers::operand;
+use store::value::Identifier;
 
 impl Frames<'_, '_> {
     // What a function of the machine answers goes to the first register passed.
@@ -50,10 +51,10 @@ impl Frames<'_, '_> {
         ensures called { (T : Tables) (G : Table) → LiveWithin spent.old.strings.used self.old → Called (content literals.entry spent.old self.old) T G (call_from a.0 passed.first.0 passed.last.0 (state_in (content literals.entry spent.old self.old) (world_in T G (content literals.entry spent.old self.old)))) result (content literals.entry spent.new self.new) }
         ensures lent { SameFrames self.old self.new × SameSpace spent.old spent.new }
     {
-        let name = function(self.current(), a)?;
-        match Builtin::named(name) {
-            Some(builtin) => self.answer(builtin, passed, literals, spent),
-            None => self.enter(name, passed),
+        let name: Identifier = operand(self.current(), a)?;
+        match Builtin::try_from(name) {
+            Ok(builtin) => self.answer(builtin, passed, literals, spent),
+            Err(NotBuiltin) => self.enter(name, passed),
         }
     }
 }

@@ -20,19 +20,19 @@ returns-in_err-name-clause-called c =
     rw (p.1, p.2)
     (λ T G live. (call-nothing a.a.0 a.passed.first.0 a.passed.last.0 T G b _ (c.in_err-name.ensures.held (memory_of b) ∙ here (memory_of b) _ _ a.a.0 c.current.ensures), refl))
 
-pub returns-in-Some-clause-called : goal.returns-in-Some-clause-called
-returns-in-Some-clause-called c =
+pub returns-in-Ok-clause-called : goal.returns-in-Ok-clause-called
+returns-in-Ok-clause-called c =
     let a = c.args in
     let b = content a.literals a.spent.now a.self.now in
     let g = c.in_ok-name.name.0 in
     let f = c.in_ok-name.ensures.held (memory_of b) ∙ here (memory_of b) _ _ a.a.0 c.current.ensures in
     λ T G live.
     called-as b T G _ _ c.answer.result _
-    (call-answers a.a.0 a.passed.first.0 a.passed.last.0 T G b g f c.in-Some.builtin c.in-Some.ensures.whose_number_it_is)
+    (call-answers a.a.0 a.passed.first.0 a.passed.last.0 T G b g f c.in-Ok.builtin c.in-Ok.ensures)
     (c.answer.ensures.called g T G live)
 
-pub returns-in-None-clause-called : goal.returns-in-None-clause-called
-returns-in-None-clause-called c =
+pub returns-in-Err-clause-called : goal.returns-in-Err-clause-called
+returns-in-Err-clause-called c =
     let a = c.args in
     let b = content a.literals a.spent.now a.self.now in
     let g = c.in_ok-name.name.0 in
@@ -40,5 +40,5 @@ returns-in-None-clause-called c =
     let n = c.enter.ensures in
     λ T G live.
     called-as b T G _ _ c.enter.result _
-    (call_enters a.a.0 a.passed.first.0 a.passed.last.0 T G b g f c.in-None.ensures.whose_number_it_is)
+    (call_enters a.a.0 a.passed.first.0 a.passed.last.0 T G b g f c.in-Err.ensures)
     (entered-called b T G _ c.enter.result _ (n.entered (memory_of b) (world_in T G b)) (n.within a.spent.now.strings.used live))
