@@ -1,19 +1,19 @@
 // Loops that count, in measured steps: in registers, in a table, by calls.
 use anyhow::anyhow;
 use buckets::{BucketStore, UNLINKED, UNUSED};
-use calls::frame::{Calls, Frame};
+use calls::frame::Frame;
+use calls::program::Code;
 use code::table::{Full, Open, Place, Record, Sealed, UNLAID};
-use effects::spent::Spent;
+use effects::literals::Literals;
 use list::ListStore;
 use machine::instruction::{Instruction, Offset, Register};
-use operands::globals::Globals;
 use std::time::Instant;
 use store::Store;
 use store::capacity::Capacity;
 use store::key::Key;
 use store::value::{Identifier, Location, Value};
 use text::span::{Space, Span};
-use vm::run::steps;
+use vm::run::Run;
 
 const ROUNDS: Value = Value::Int(5000000);
 
@@ -34,6 +34,11 @@ const D: Register = Register(3);
 const E: Register = Register(4);
 
 const F: Register = Register(5);
+
+const NO_FRAME: Frame = Frame {
+    function: Identifier(0),
+    pc: Place(0),
+};
 
 const IN_REGISTERS: [Instruction; 8] = [
     Instruction::Const(A, Value::Int(0)),
@@ -94,36 +99,22 @@ fn laid(
 }
 
 // The steps of a run to its end, over registers that are unset and a store that is empty.
-fn run<S: Store>(code: &Sealed, records: &[Record], store: &mut S) -> u32 {
-    let mut calls = Calls {
-        running: Frame {
-            function: Identifier(0),
-            pc: Place(0),
-        },
-        waiting: 0,
-    };
-    let mut callers = [calls.running; 31];
+fn run<S: Store>(sealed: &Sealed, records: &[Record], store: &mut S) -> u32 {
+    let mut callers = [NO_FRAME; 31];
     let mut registers = [None; 4096];
-    let mut globals = Globals::new();
-    let mut made = [0u8; 32768];
-    let mut out = [0u8; 16384];
-    let mut spent = Spent::nothing();
-    store.clear();
-    match steps(
-        100000000,
-        code,
+    let mut strings = [0u8; 32768];
+    let mut output = [0u8; 16384];
+    let mut run = Run::new(&mut callers, &mut registers, &mut strings, &mut output);
+    let code = Code {
+        sealed,
         records,
-        &mut calls,
-        &mut callers,
-        &mut registers,
-        &mut globals,
-        store,
-        b"",
-        b"@count",
-        &mut made,
-        &mut spent,
-        &mut out,
-    ) {
+        literals: Literals {
+            fixed: b"",
+            texts: b"@count",
+        },
+    };
+    store.clear();
+    match run.steps(100000000, code, store) {
         Ok(ran) => ran.steps,
         Err(_) => 0,
     }

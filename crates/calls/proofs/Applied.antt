@@ -1,9 +1,8 @@
 -- What the machine's own functions leave, as their definitions say.
-use Rattle.std.proofs.Common.{◌≡◌, ℕ, ◌+◌, ◌≤◌, Bool, true, false, ◌&&◌, ltb, leb, List, ◌++◌, length, ℤ, pos, Ok, Err, sym, refl, ap, ◌∙◌, arith}
+use Rattle.std.proofs.Common.{◌≡◌, ℕ, ◌+◌, ◌≤◌, Bool, true, false, ◌&&◌, ltb, leb, List, ◌++◌, length, ℤ, pos, Ok, Err, sym, refl, ap, ◌∙◌, subst, arith}
 use Rattle.std.proofs.lemmas.Bool.{leb-true}
 use Rattle.std.specs.Fmt.{signed_decimal}
 use Rattle.text.specs.declared.span.Span.{Span}
-use Rattle.text.specs.Memory.{Memory}
 use Rattle.text.specs.Meanings.{grown-none}
 use Rattle.store.specs.declared.value.Value.{Value}
 use Rattle.store.specs.declared.value.Value.TheVariants.{Int, Str}
@@ -16,10 +15,16 @@ use Rattle.machine.specs.Outcome.{Outcome, ◌>>=◌, unless}
 use Rattle.machine.specs.Effects.{Effects, charged, printed, charge, print}
 use Rattle.machine.specs.Builtin.{integer_in, string_in, shown, one, two, make, apply}
 use Rattle.machine.specs.State.{Registers}
+use Rattle.effects.specs.declared.literals.Literals.{Literals}
+use Rattle.effects.specs.declared.strings.Strings.{Strings}
+use Rattle.effects.specs.declared.output.Output.{Output}
 use Rattle.effects.specs.declared.spent.Spent.{Spent}
-use Rattle.effects.specs.Spending.{effects_of, Makes}
+use Rattle.effects.specs.Spending.{memory_with, effects_with, effects_of, Makes}
+use Rattle.effects.specs.Laid.{laid}
+use Rattle.text.specs.Memory.{bytes_of}
+use Rattle.text.specs.Agree.{Grown}
 use Rattle.effects.proofs.Laying.{laid-grown, laid-means}
-use Rattle.calls.specs.Applying.{arguments_at, only_at, both_at, with_made, Shows, Spells, Answers, apply_at}
+use Rattle.calls.specs.Applying.{arguments_at, only_at, both_at, memory_in, Shows, Spells, Answers, apply_at}
 
 -- what passes a test passes it, and goes on
 passes : {A : Type 0} (e : Ending) (b : Bool) (x : Outcome A) (y : A) → unless e b x ≡ Ok y → (b ≡ true) × (x ≡ Ok y)
@@ -31,16 +36,16 @@ and_right true b h = h
 and_right false b h = let z : ◌≡◌ {A = ℕ} 0 1 = cc in absurd (omega arith)
 
 -- a charge that was made fits, and adds its bytes
-module _ (n : ℕ) (p q : Spent) (out : List ℕ) (h : charge n (effects_of p out) ≡ Ok (effects_of q out)) where
-  charge-passes : ((ltb p.strings most_strings && leb (p.bytes + n) most_string_bytes) ≡ true) × (◌≡◌ {A = Outcome Effects} (Ok (charged n (effects_of p out))) (Ok (effects_of q out)))
+module _ (n : ℕ) (o r : Effects) (h : charge n o ≡ Ok r) where
+  charge-passes : ((ltb o.strings most_strings && leb (o.bytes + n) most_string_bytes) ≡ true) × (◌≡◌ {A = Outcome Effects} (Ok (charged n o)) (Ok r))
   unfolding charge
-  charge-passes = passes NoTextSpace (ltb p.strings most_strings && leb (p.bytes + n) most_string_bytes) _ _ h
+  charge-passes = passes NoTextSpace (ltb o.strings most_strings && leb (o.bytes + n) most_string_bytes) _ _ h
 
-  charge-fits : p.bytes + n ≤ most_string_bytes
-  charge-fits = leb-true _ _ (and_right (ltb p.strings most_strings) (leb (p.bytes + n) most_string_bytes) charge-passes.0)
+  charge-fits : o.bytes + n ≤ most_string_bytes
+  charge-fits = leb-true _ _ (and_right (ltb o.strings most_strings) (leb (o.bytes + n) most_string_bytes) charge-passes.0)
 
-  charge-adds : q.bytes ≡ p.bytes + n
-  charge-adds = let e : charged n (effects_of p out) ≡ effects_of q out = (let f = charge-passes.1 in cc) in sym (ap (λ (o : Effects). o.bytes) e)
+  charge-adds : r.bytes ≡ o.bytes + n
+  charge-adds = let e : charged n o ≡ r = (let f = charge-passes.1 in cc) in sym (ap (λ (z : Effects). z.bytes) e)
 
 -- a print charges nothing
 print-keeps : (s : List ℕ) (o r : Effects) → print s o ≡ Ok r → r.bytes ≡ o.bytes
@@ -48,25 +53,25 @@ unfolding print
 print-keeps s o r h =
     let p = (passes NoOutputSpace (leb (length s) o.left) _ _ h).1 in
     let e : printed s o ≡ r = cc in
-    sym (ap (λ (o : Effects). o.bytes) e)
+    sym (ap (λ (z : Effects). z.bytes) e)
 
 -- a new string, or nothing
-pub makes-applied : (m : Memory) (s : List ℕ) (p q : Spent) (t : Span) (made out : List ℕ) → most_string_bytes ≤ length m.made → p.printed ≤ length out → q.printed ≡ p.printed → Makes s p m.made (Ok t) q made → Answers m (with_made m made) (make s (effects_of p out)) (Str t) p q out
-makes-applied m s p q t made out l f e h =
-    let c = h.0 out in
-    let fits = charge-fits (length s) p q out c in
-    let adds = charge-adds (length s) p q out c in
-    rw (h.1, h.2)
-    (record {
-      answer = rw c (ap (λ (x : List ℕ). Ok (Val.string x, effects_of q out)) (sym (laid-means m p.bytes (length s) s refl (omega arith))));
-      grown = laid-grown m p.bytes s (omega arith);
+pub makes-applied : (l : Literals) (s : List ℕ) (p : Spent) (q : Strings) (t : Span) → most_string_bytes ≤ length p.strings.bytes.now → Makes s p.strings (Ok t) q → Answers l (make s (effects_of p)) (Str t) p (record { strings = q; output = p.output })
+makes-applied l s p q t room h =
+    let c = h.0 p.output in
+    let fits = charge-fits (length s) (effects_of p) (effects_with q p.output) c in
+    let adds = charge-adds (length s) (effects_of p) (effects_with q p.output) c in
+    let after : memory_with l q.bytes.now ≡ memory_with l (laid p.strings.bytes.now p.strings.used s) = ap (memory_with l) h.2 in
+    let means : bytes_of (memory_with l q.bytes.now) t ≡ s = (λ i. bytes_of (after i) (h.1 i)) ∙ laid-means (memory_in l p) p.strings.used (length s) s refl (omega arith) in
+    record {
+      answer = rw c (ap (λ (x : List ℕ). Ok (Val.string x, effects_with q p.output)) (sym means));
+      grown = subst (Grown p.strings.used (memory_in l p)) (sym after) (laid-grown (memory_in l p) p.strings.used s (omega arith));
       more = omega arith;
-      ends = omega arith;
-      shown = omega arith;
-    })
+      ends = rw h.1 (omega arith);
+    }
 
-pub makes-refused : (m : Memory) (s : List ℕ) (p q : Spent) (e : Ending) (made out : List ℕ) → Makes s p m.made (Err e) q made → (make s (effects_of p out) ≡ Err e) × (q ≡ p) × (made ≡ m.made) × (out ≡ out)
-makes-refused m s p q e made out h = (rw (h.0 out), h.1, h.2, refl)
+pub makes-refused : (s : List ℕ) (p : Spent) (q : Strings) (e : Ending) → Makes s p.strings (Err e) q → (make s (effects_of p) ≡ Err e) × (◌≡◌ {A = Spent} (record { strings = q; output = p.output }) p)
+makes-refused s p q e h = (rw (h.0 p.output), (λ i. record { strings = h.1 i; output = p.output }))
 
 -- what follows the arguments of each function
 abbrev printing : Effects → Val → Outcome (Val × Effects)
@@ -168,30 +173,24 @@ module _ (R : Registers) (a b : ℕ) (o : Effects) where
       concat-of t k = concat-with ∙ ap (λ (z : Outcome (List ℕ)). z >>= (λ s. string_in w >>= (λ t. make (s ++ t) o))) (sym f) ∙ ap (λ (z : Outcome (List ℕ)). z >>= (λ t. make (s ++ t) o)) (sym k)
 
 -- what was shown is what the print leaves
-pub print-applied : (m : Memory) (R : Registers) (a b : ℕ) (v : Val) (p q : Spent) (out after : List ℕ) → Ok v ≡ only_at R a b → Shows (shown v) p out (Ok tt) q after → q.printed ≤ length after → Answers m m (apply_at PrintValue R a b (effects_of p out)) (Int (pos 0)) p q after
-print-applied m R a b v p q out after h w l =
-    let k = kept (shown v) w in
+pub print-applied : (l : Literals) (R : Registers) (a b : ℕ) (v : Val) (p : Spent) (q : Output) → Ok v ≡ only_at R a b → Shows (shown v) p.output (Ok tt) q → Answers l (apply_at PrintValue R a b (effects_of p)) (Int (pos 0)) p (record { strings = p.strings; output = q })
+print-applied l R a b v p q h w =
     record {
-      answer = print-with R a b (effects_of p out) v h ∙ ap (λ (z : Outcome Effects). z >>= (λ p. Ok (Val.int (pos 0), p))) w;
-      grown = grown-none p.bytes m;
+      answer = print-with R a b (effects_of p) v h ∙ ap (λ (z : Outcome Effects). z >>= (λ p. Ok (Val.int (pos 0), p))) (w p.strings);
+      grown = grown-none p.strings.used (memory_in l p);
       more = omega arith;
       ends = omega arith;
-      shown = l;
     }
-  where
-    kept : (x : Outcome (List ℕ)) → (x >>= (λ s. print s (effects_of p out))) ≡ Ok (effects_of q after) → q.bytes ≡ p.bytes
-    kept (Ok s) e = print-keeps s (effects_of p out) (effects_of q after) e
-    kept (Err x) e = let z : ◌≡◌ {A = ℕ} 0 1 = cc in absurd (omega arith)
 
 -- the string of an integer
-pub spells-refused : (x : Outcome ℤ) (p q : Spent) (e : Ending) (made after out : List ℕ) → Spells x p made (Err e) q after → ((x >>= (λ n. make (signed_decimal n) (effects_of p out))) ≡ Err e) × (q ≡ p) × (after ≡ made)
-spells-refused (Ok n) p q e made after out h = (ap (λ (z : Outcome Effects). z >>= (λ r. Ok (Val.string (signed_decimal n), r))) (h.0 out), h.1, h.2)
-spells-refused (Err f) p q e made after out h = let k = h.0 in let g : f ≡ e = cc in (ap Err g, h.1, h.2)
+pub spells-refused : (x : Outcome ℤ) (p : Spent) (q : Strings) (e : Ending) → Spells x p.strings (Err e) q → ((x >>= (λ n. make (signed_decimal n) (effects_of p))) ≡ Err e) × (◌≡◌ {A = Spent} (record { strings = q; output = p.output }) p)
+spells-refused (Ok n) p q e h = (ap (λ (z : Outcome Effects). z >>= (λ r. Ok (Val.string (signed_decimal n), r))) (h.0 p.output), (λ i. record { strings = h.1 i; output = p.output }))
+spells-refused (Err f) p q e h = let k = h.0 in let g : f ≡ e = cc in (ap Err g, (λ i. record { strings = h.1 i; output = p.output }))
 
-pub spells-applied : (m : Memory) (x : Outcome ℤ) (p q : Spent) (t : Span) (made out : List ℕ) → most_string_bytes ≤ length m.made → p.printed ≤ length out → q.printed ≡ p.printed → Spells x p m.made (Ok t) q made → Answers m (with_made m made) (x >>= (λ n. make (signed_decimal n) (effects_of p out))) (Str t) p q out
-spells-applied m (Ok n) p q t made out l f e h = makes-applied m (signed_decimal n) p q t made out l f e h
-spells-applied m (Err g) p q t made out l f e h = let k = h.0 in let z : ◌≡◌ {A = ℕ} 0 1 = cc in absurd (omega arith)
+pub spells-applied : (l : Literals) (x : Outcome ℤ) (p : Spent) (q : Strings) (t : Span) → most_string_bytes ≤ length p.strings.bytes.now → Spells x p.strings (Ok t) q → Answers l (x >>= (λ n. make (signed_decimal n) (effects_of p))) (Str t) p (record { strings = q; output = p.output })
+spells-applied l (Ok n) p q t room h = makes-applied l (signed_decimal n) p q t room h
+spells-applied l (Err g) p q t room h = let k = h.0 in let z : ◌≡◌ {A = ℕ} 0 1 = cc in absurd (omega arith)
 
 -- an answer by another name
-pub answers-as : (m n : Memory) (x y : Outcome (Val × Effects)) (v : Value) (p q : Spent) (out : List ℕ) → x ≡ y → Answers m n y v p q out → Answers m n x v p q out
-answers-as m n x y v p q out e h = record { answer = e ∙ h.answer; grown = h.grown; more = h.more; ends = h.ends; shown = h.shown }
+pub answers-as : (l : Literals) (x y : Outcome (Val × Effects)) (v : Value) (p q : Spent) → x ≡ y → Answers l y v p q → Answers l x v p q
+answers-as l x y v p q e h = record { answer = e ∙ h.answer; grown = h.grown; more = h.more; ends = h.ends }

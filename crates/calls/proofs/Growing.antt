@@ -8,7 +8,7 @@ use Rattle.store.specs.ValuesLemmas.{meaning-grown}
 use Rattle.machine.specs.State as machine
 use Rattle.operands.specs.Slots.{registers_of, slot_end, Within}
 use Rattle.calls.specs.declared.frame.Frame.{Frame}
-use Rattle.calls.specs.Frames.{window, no_frame, callers_of, LiveWithin}
+use Rattle.calls.specs.Frames.{window, no_frame, callers_of, LiveIn}
 
 module _ (u : ℕ) (m n : Memory) (g : Grown u m n) where
   slot-grown : (o : Option Value) → slot_end o ≤ u → meant m o ≡ meant n o
@@ -26,5 +26,5 @@ module _ (u : ℕ) (m n : Memory) (g : Grown u m n) where
   callers-grown xs fs (suc w) h =
       (λ i. machine.frame (get_or fs w no_frame).function.0 (get_or fs w no_frame).pc.0 (registers-grown (window xs w) (h w (omega arith)) i) ∷ callers-grown xs fs w (λ k l. h k (omega arith)) i)
 
-pub live-wider : (u v : ℕ) (xs : List (Option Value)) (w : ℕ) → u ≤ v → LiveWithin u xs w → LiveWithin v xs w
+pub live-wider : (u v : ℕ) (xs : List (Option Value)) (w : ℕ) → u ≤ v → LiveIn u xs w → LiveIn v xs w
 live-wider u v xs w l h k a i = let b = h k a i in omega arith

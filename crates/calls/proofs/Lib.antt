@@ -2,8 +2,8 @@ pub mod Arguments
 pub mod Applied
 pub mod Laying
 pub mod Windows
-pub mod Stacked
-pub mod Entering
+pub mod NewFrame
 pub mod Writing
 pub mod Growing
 pub mod Called
+pub mod Stacked

@@ -1,39 +1,26 @@
--- A slice after a push onto the stack of its first items, and after a pop.
-use Rattle.std.proofs.Common.{◌≡◌, ℕ, suc, ◌-◌, ◌<◌, ◌≤◌, List, [], ◌∷◌, ◌++◌, length, get_or, take, drop, set, Some, None, Ok, Err, Option, Result, sym, ap, ◌∙◌, add-one, arith, MatchOption, MatchResult}
-use Rattle.std.proofs.lemmas.List.{append_assoc, take-append-drop, drop-drop, set_split, length-take-le, length_push, get_or_push, get_or-take}
-use Rattle.stack.specs.declared.Stack.{Stack}
-use Rattle.stack.specs.Held.{held, beyond, room}
-use Rattle.stack.proofs.Holding.{slice-is-held-and-beyond}
+-- Callers after a push that has room, and after a pop beside the latest.
+use Rattle.std.proofs.Common.{◌≡◌, ℕ, suc, ◌<◌, List, [], ◌∷◌, ◌++◌, length, get_or, Ok, Err, Option, Result, sym, ap, ◌∙◌, arith, MatchOption, MatchResult}
+use Rattle.std.proofs.lemmas.List.{length_push, get_or_push, get_or_append_left}
+use Rattle.stack.specs.Held.{front}
+use Rattle.stack.proofs.Holding.{pop-after-push}
+use Rattle.calls.specs.declared.frame.Frame.{Frame}
+use Rattle.calls.specs.Frames.{no_frame}
 
-module _ {T : Type 0} (s t : Stack T) (xs : List T) (n : ℕ) (front : held s ≡ take n xs) (rest : beyond s ≡ drop n xs) where
-  pub pushed : (r : Result (Unit {0}) T) (x : T) → room s ≡ length xs → n < length xs → MatchResult r (λ _. length (held s) < room s) (λ y. (y ≡ x) × (length (held s) ≡ room s)) → MatchResult r (λ _. held t ≡ held s ++ x ∷ []) (λ _. held t ≡ held s) → MatchResult r (λ _. beyond t ≡ drop 1 (beyond s)) (λ _. beyond t ≡ beyond s) → t.items.now ≡ set xs n x
-  pushed (Ok u) x e h f p q =
-      slice-is-held-and-beyond t
-      ∙ ap (λ ys. ys ++ beyond t) (p ∙ ap (λ ys. ys ++ x ∷ []) front)
-      ∙ ap (λ zs. (take n xs ++ x ∷ []) ++ zs) (q ∙ ap (drop 1) rest ∙ drop-drop 1 n xs ∙ ap (λ k. drop k xs) (add-one n))
-      ∙ append_assoc (take n xs) (x ∷ []) (drop (suc n) xs)
-      ∙ sym (set_split xs n x h)
-  pushed (Err y) x e h f p q = absurd (omega (arith, f.1, ap length front, length-take-le n xs (omega arith)))
+pub pushed : (r : Result (Unit {0}) Frame) (was now : List Frame) (x : Frame) (room : ℕ) → length was < room → MatchResult r (λ _. length was < room) (λ y. (y ≡ x) × (length was ≡ room)) → MatchResult r (λ _. now ≡ was ++ x ∷ []) (λ _. now ≡ was) → now ≡ was ++ x ∷ []
+pushed (Ok u) was now x room h f p = p
+pushed (Err y) was now x room h f p = absurd (omega (arith, f.1))
 
-  pub popped : (r : Option T) → n ≤ length xs → MatchOption r ((held s ≡ []) × (held t ≡ [])) (λ x. held s ≡ held t ++ x ∷ []) → MatchOption r (beyond t ≡ beyond s) (λ x. beyond t ≡ x ∷ beyond s) → t.items.now ≡ xs
-  popped None h p q =
-      slice-is-held-and-beyond t
-      ∙ ap (λ ys. ys ++ beyond t) (p.1 ∙ sym p.0 ∙ front)
-      ∙ ap (λ zs. take n xs ++ zs) (q ∙ rest)
-      ∙ take-append-drop n xs
-  popped (Some x) h p q =
-      slice-is-held-and-beyond t
-      ∙ ap (λ zs. held t ++ zs) q
-      ∙ sym (append_assoc (held t) (x ∷ []) (beyond s))
-      ∙ ap (λ ys. ys ++ beyond s) (sym p ∙ front)
-      ∙ ap (λ zs. take n xs ++ zs) rest
-      ∙ take-append-drop n xs
+module _ (fs : List Frame) (x : Frame) (top : fs ≡ front fs ++ x ∷ []) where
+  pub one-less : length fs ≡ suc (length (front fs))
+  one-less = let e = ap length top ∙ length_push (front fs) x in omega arith
 
-  pub latest : (r : Option T) (d : T) → n ≤ length xs → MatchOption r ((held s ≡ []) × (held t ≡ [])) (λ x. held s ≡ held t ++ x ∷ []) → MatchOption r (n ≡ 0) (λ x. (0 < n) × (x ≡ get_or xs (n - 1) d))
-  latest None d h p = let l = length-take-le n xs h in let e = ap length (sym front ∙ p.0) in omega arith
-  latest (Some x) d h p =
-      let l = length-take-le n xs h in
-      let e = ap length (sym front ∙ p) in
-      let k = length_push (held t) x in
-      let some : 0 < n = omega arith in
-      (some, sym (get_or_push (held t) x d (n - 1) (omega arith)) ∙ ap (λ ys. get_or ys (n - 1) d) (sym p ∙ front) ∙ get_or-take n xs (n - 1) d (omega arith))
+  pub latest : x ≡ get_or fs (length (front fs)) no_frame
+  latest = sym (ap (λ (z : List Frame). get_or z (length (front fs)) no_frame) top ∙ get_or_push (front fs) x no_frame (length (front fs)) (omega arith))
+
+  pub popped : (r : Option Frame) (now : List Frame) → MatchOption r ((fs ≡ []) × (now ≡ [])) (λ y. fs ≡ now ++ y ∷ []) → now ≡ front fs
+  popped r now p = (pop-after-push r fs (front fs) now x top p).1
+
+  pub below : (now : List Frame) → now ≡ front fs → (j : ℕ) → j < length (front fs) → get_or now j no_frame ≡ get_or fs j no_frame
+  below now e j l =
+      ap (λ (z : List Frame). get_or z j no_frame) e
+      ∙ sym (ap (λ (z : List Frame). get_or z j no_frame) top ∙ get_or_append_left (front fs) (x ∷ []) no_frame j l)

@@ -1,5 +1,5 @@
 -- A register of a frame is written, and a call is left.
-use Rattle.std.proofs.Common.{◌≡◌, ℕ, suc, ◌+◌, ◌*◌, ◌<◌, ◌≤◌, List, length, get_or, take, set, Some, Ok, Err, Option, sym, refl, ap, ◌∙◌, subst, inl, inr, arith}
+use Rattle.std.proofs.Common.{◌≡◌, ℕ, suc, ◌+◌, ◌*◌, ◌<◌, ◌≤◌, List, length, get_or, take, set, Some, Ok, Err, Option, sym, ap, ◌∙◌, subst, inl, inr, arith}
 use Rattle.std.proofs.lemmas.Bool.{cases_lt, lt-ltb, le-ltb}
 use Rattle.text.specs.Memory.{Memory}
 use Rattle.store.specs.declared.value.Value.{Value}
@@ -14,8 +14,7 @@ use Rattle.machine.specs.Step.{into, return}
 use Rattle.operands.specs.Slots.{registers_of, Within}
 use Rattle.operands.proofs.Slots.{slot-set, slot-within}
 use Rattle.calls.specs.declared.frame.Frame.{Frame}
-use Rattle.calls.specs.declared.frame.Calls.{Calls}
-use Rattle.calls.specs.Frames.{window, no_frame, callers_of, state_of, LiveWithin, target_of}
+use Rattle.calls.specs.Frames.{window, no_frame, callers_of, state_at, LiveIn, target_of}
 use Rattle.calls.proofs.Windows.{window-kept, window-set, front-set, length-window, callers-kept}
 
 module _ (xs ys : List (Option Value)) (k a : ℕ) (v : Value) (e : ys ≡ set xs (registers_per_frame * k + a) (Some v)) (low : a < registers_per_frame) (sized : registers_per_frame * k + registers_per_frame ≤ length xs) where
@@ -30,10 +29,10 @@ module _ (xs ys : List (Option Value)) (k a : ℕ) (v : Value) (e : ys ≡ set x
   register-written m = ap (registers_of m) written ∙ slot-set m (window xs k) a v (let l = length-window xs k sized in omega arith)
 
   -- its callers stay
-  pub callers-written : (m : Memory) (fs : List Frame) → callers_of m ys fs k ≡ callers_of m xs fs k
-  callers-written m fs = callers-kept m xs ys fs fs k front_kept (λ j l. refl)
+  pub callers-written : (m : Memory) (fs gs : List Frame) → ((j : ℕ) → j < k → get_or gs j no_frame ≡ get_or fs j no_frame) → callers_of m ys gs k ≡ callers_of m xs fs k
+  callers-written m fs gs same = callers-kept m xs ys fs gs k front_kept same
 
-  pub written-within : (u : ℕ) → LiveWithin u xs k → end_of v ≤ u → LiveWithin u ys k
+  pub written-within : (u : ℕ) → LiveIn u xs k → end_of v ≤ u → LiveIn u ys k
   written-within u h f j l =
       elim (cases_lt j k) [
         | inl b ↦ subst (Within u) (sym (window-kept xs ys (registers_per_frame * k) j front_kept (omega arith))) (h j (omega arith))
@@ -60,9 +59,9 @@ module _ (P : Program) (m : Memory) (W : World) (xs : List (Option Value)) (fs :
       pub leave-nowhere : registers_per_frame ≤ a → return P (meaning m v) (callers_of m xs fs n) W ≡ Err Stuck
       leave-nowhere l = latest ∙ rw (← h, le-ltb a registers_per_frame l)
 
-      pub leave-goes : (ys : List (Option Value)) (d : Calls) → a < registers_per_frame → registers_per_frame * k + registers_per_frame ≤ length xs → ys ≡ set xs (registers_per_frame * k + a) (Some v) → d.running.function.0 ≡ (get_or fs k no_frame).function.0 → d.running.pc.0 ≡ suc (get_or fs k no_frame).pc.0 → d.waiting ≡ k → return P (meaning m v) (callers_of m xs fs n) W ≡ Ok (state_of m ys fs d W)
-      unfolding state_of
-      leave-goes ys d low sized ey ef ep ew =
+      pub leave-goes : (ys : List (Option Value)) (gs : List Frame) (v' : ℕ) (t : Frame) → a < registers_per_frame → registers_per_frame * k + registers_per_frame ≤ length xs → ys ≡ set xs (registers_per_frame * k + a) (Some v) → t.function.0 ≡ (get_or fs k no_frame).function.0 → t.pc.0 ≡ suc (get_or fs k no_frame).pc.0 → v' ≡ k → ((j : ℕ) → j < k → get_or gs j no_frame ≡ get_or fs j no_frame) → return P (meaning m v) (callers_of m xs fs n) W ≡ Ok (state_at m ys gs v' t W)
+      unfolding state_at
+      leave-goes ys gs v' t low sized ey ef ep ew same =
           let regs = ap (λ i. registers_of m (window ys i)) ew ∙ register-written xs ys k a v ey low sized m in
-          let callers = ap (callers_of m ys fs) ew ∙ callers-written xs ys k a v ey low sized m fs in
+          let callers = ap (callers_of m ys gs) ew ∙ callers-written xs ys k a v ey low sized m fs gs same in
           latest ∙ rw (← h, lt-ltb a registers_per_frame low) (λ i. Ok (at (sym ef i) (sym ep i) (sym regs i) (sym callers i) W))

@@ -1,5 +1,5 @@
 -- What the machine's own functions answer to the registers of a call, and what they leave. Assumes nothing.
-use Rattle.std.specs.Prelude.{◌≡◌, ℕ, suc, ◌-◌, ◌<◌, ◌≤◌, List, length, ℤ, Ok, Err, Result}
+use Rattle.std.specs.Prelude.{◌≡◌, ℕ, suc, ◌-◌, ◌<◌, ◌≤◌, List, ℤ, Ok, Err, Result}
 use Rattle.std.specs.Fmt.{signed_decimal}
 use Rattle.text.specs.declared.span.Span.{Span}
 use Rattle.text.specs.Memory.{Memory, bytes_of}
@@ -13,8 +13,11 @@ use Rattle.machine.specs.Effects.{Effects, print}
 use Rattle.machine.specs.Builtin.{one, two, apply}
 use Rattle.machine.specs.State.{Registers}
 use Rattle.machine.specs.Operands.{values_from}
+use Rattle.effects.specs.declared.literals.Literals.{Literals}
+use Rattle.effects.specs.declared.strings.Strings.{Strings}
+use Rattle.effects.specs.declared.output.Output.{Output}
 use Rattle.effects.specs.declared.spent.Spent.{Spent}
-use Rattle.effects.specs.Spending.{effects_of, Makes}
+use Rattle.effects.specs.Spending.{memory_with, SameSlice, effects_with, effects_of, Makes}
 
 -- the arguments of a call: the registers from the first to the last
 abbrev pub arguments_at : Registers → ℕ → ℕ → Outcome (List Val)
@@ -27,8 +30,14 @@ only_at R first last = arguments_at R first last >>= one
 abbrev pub both_at : Registers → ℕ → ℕ → Outcome (Val × Val)
 both_at R first last = arguments_at R first last >>= two
 
-abbrev pub with_made : Memory → List ℕ → Memory
-with_made m made = record { fixed = m.fixed; texts = m.texts; made = made }
+-- the memory that strings lie in
+abbrev pub memory_in : Literals → Spent → Memory
+memory_in l p = memory_with l p.strings.bytes.now
+
+-- the same lender's memory
+pub record SameSpace (p q : Spent) : Type 0 where
+  pub strings : SameSlice p.strings.bytes q.strings.bytes
+  pub output : SameSlice p.output.bytes q.output.bytes
 
 -- a string by its bytes
 abbrev pub spelled : Memory → Result Span Ending → Outcome (List ℕ)
@@ -54,27 +63,26 @@ There first n (Ok v) = first < n
 There first n (Err e) = Unit {0}
 
 -- what a print leaves of a value, or nothing changed
-abbrev pub Shows : Outcome (List ℕ) → Spent → List ℕ → Result (Unit {0}) Ending → Spent → List ℕ → Type 0
-Shows x p out (Ok u) q after = (x >>= (λ s. print s (effects_of p out))) ≡ Ok (effects_of q after)
-Shows x p out (Err e) q after = ((x >>= (λ s. print s (effects_of p out))) ≡ Err e) × (q ≡ p) × (after ≡ out)
+abbrev pub Shows : Outcome (List ℕ) → Output → Result (Unit {0}) Ending → Output → Type 0
+Shows x o (Ok u) q = (p : Strings) → (x >>= (λ s. print s (effects_with p o))) ≡ Ok (effects_with p q)
+Shows x o (Err e) q = ((p : Strings) → (x >>= (λ s. print s (effects_with p o))) ≡ Err e) × (q ≡ o)
 
 -- what a new string of an integer leaves, or nothing changed
-abbrev pub Spells : Outcome ℤ → Spent → List ℕ → Result Span Ending → Spent → List ℕ → Type 0
-Spells (Ok n) p made r q after = Makes (signed_decimal n) p made r q after
-Spells (Err e) p made r q after = (r ≡ Err e) × (q ≡ p) × (after ≡ made)
+abbrev pub Spells : Outcome ℤ → Strings → Result Span Ending → Strings → Type 0
+Spells (Ok n) p r q = Makes (signed_decimal n) p r q
+Spells (Err e) p r q = (r ≡ Err e) × (q ≡ p)
 
 -- the answer, with the effects that it leaves; strings made before stay
-pub record Answers (m n : Memory) (x : Outcome (Val × Effects)) (v : Value) (p q : Spent) (out : List ℕ) : Type 0 where
-  pub answer : x ≡ Ok (meaning n v, effects_of q out)
-  pub grown : Grown p.bytes m n
-  pub more : p.bytes ≤ q.bytes
-  pub ends : end_of v ≤ q.bytes
-  pub shown : q.printed ≤ length out
+pub record Answers (l : Literals) (x : Outcome (Val × Effects)) (v : Value) (p q : Spent) : Type 0 where
+  pub answer : x ≡ Ok (meaning (memory_in l q) v, effects_of q)
+  pub grown : Grown p.strings.used (memory_in l p) (memory_in l q)
+  pub more : p.strings.used ≤ q.strings.used
+  pub ends : end_of v ≤ q.strings.used
 
 -- an answer, or an ending that changes nothing
-abbrev pub Applied : Memory → Outcome (Val × Effects) → Spent → List ℕ → Result Value Ending → Spent → List ℕ → List ℕ → Type 0
-Applied m x p out (Ok v) q made' out' = Answers m (with_made m made') x v p q out'
-Applied m x p out (Err e) q made' out' = (x ≡ Err e) × (q ≡ p) × (made' ≡ m.made) × (out' ≡ out)
+abbrev pub Applied : Literals → Outcome (Val × Effects) → Spent → Result Value Ending → Spent → Type 0
+Applied l x p (Ok v) q = Answers l x v p q
+Applied l x p (Err e) q = (x ≡ Err e) × (q ≡ p)
 
 -- what a function of the machine answers to registers
 abbrev pub apply_at : Builtin → Registers → ℕ → ℕ → Effects → Outcome (Val × Effects)

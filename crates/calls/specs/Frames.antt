@@ -12,7 +12,9 @@ use Rattle.machine.specs.State as machine
 use Rattle.machine.specs.Step.{invoke}
 use Rattle.operands.specs.Slots.{registers_of, Within}
 use Rattle.calls.specs.declared.frame.Frame.{Frame}
-use Rattle.calls.specs.declared.frame.Calls.{Calls}
+use Rattle.calls.specs.declared.frame.Frames.{Frames}
+use Rattle.stack.specs.Held.{held, room}
+use Rattle.effects.specs.Spending.{SameSlice}
 use Rattle.calls.specs.Applying.{arguments_at}
 
 -- the registers of the frame k, counted from the oldest
@@ -29,25 +31,41 @@ callers_of m xs fs (suc n) =
     machine.frame (slice_index_or fs n no_frame).function.0 (slice_index_or fs n no_frame).pc.0 (registers_of m (window xs n))
     ∷ callers_of m xs fs n
 
-unfoldable pub state_of : Memory → List (Option Value) → List Frame → Calls → World → State
-state_of m xs fs c W =
-    at c.running.function.0 c.running.pc.0 (registers_of m (window xs c.waiting))
-    (callers_of m xs fs c.waiting) W
+-- how many callers wait
+abbrev pub waiting : Frames → ℕ
+waiting f = length (held f.callers)
+
+abbrev pub callers_in : Memory → Frames → List machine.Frame
+callers_in m f = callers_of m f.registers.now (held f.callers) (waiting f)
+
+-- the running frame of registers beside so many callers
+unfoldable pub state_at : Memory → List (Option Value) → List Frame → ℕ → Frame → World → State
+state_at m xs fs n r W = at r.function.0 r.pc.0 (registers_of m (window xs n)) (callers_of m xs fs n) W
+
+abbrev pub state_of : Memory → Frames → World → State
+state_of m f W = state_at m f.registers.now (held f.callers) (waiting f) f.running W
 
 -- no register of the running frame or of a caller refers to a string made at u or behind it
-abbrev pub LiveWithin : ℕ → List (Option Value) → ℕ → Type 0
-LiveWithin u xs n = (k : ℕ) → k ≤ n → Within u (window xs k)
+abbrev pub LiveIn : ℕ → List (Option Value) → ℕ → Type 0
+LiveIn u xs n = (k : ℕ) → k ≤ n → Within u (window xs k)
+
+abbrev pub LiveWithin : ℕ → Frames → Type 0
+LiveWithin u f = LiveIn u f.registers.now (waiting f)
 
 -- there is memory for all frames
-pub record Sized (n : ℕ) (fs : List Frame) (xs : List (Option Value)) : Type 0 where
-  pub few : n < most_frames
-  pub frames : most_frames ≤ suc (length fs)
-  pub registers : registers_per_frame * most_frames ≤ length xs
+pub record Sized (f : Frames) : Type 0 where
+  pub callers : most_frames ≤ suc (room f.callers)
+  pub registers : registers_per_frame * most_frames ≤ length f.registers.now
+
+-- the same lender's memory
+pub record SameFrames (f g : Frames) : Type 0 where
+  pub callers : SameSlice f.callers.items g.callers.items
+  pub registers : SameSlice f.registers g.registers
 
 -- the state that a call or a return leads to, or nothing changed
-abbrev pub Moved : Memory → World → Outcome State → Result (Unit {0}) Ending → List (Option Value) → List Frame → Calls → List (Option Value) → List Frame → Calls → Type 0
-Moved m W x (Ok u) xs fs c ys gs d = x ≡ Ok (state_of m ys gs d W)
-Moved m W x (Err e) xs fs c ys gs d = (x ≡ Err e) × (ys ≡ xs) × (gs ≡ fs) × (d ≡ c)
+abbrev pub Moved : Memory → World → Outcome State → Result (Unit {0}) Ending → Frames → Frames → Type 0
+Moved m W x (Ok u) f g = x ≡ Ok (state_of m g W)
+Moved m W x (Err e) f g = (x ≡ Err e) × (g ≡ f)
 
 -- a call of the function g, which is none of the machine's own
 abbrev pub enter_from : ℕ → ℕ → ℕ → State → Outcome State

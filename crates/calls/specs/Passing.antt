@@ -7,23 +7,23 @@ use Rattle.machine.specs.declared.ending.Ending.{Ending}
 use Rattle.machine.specs.Limits.{registers_per_frame}
 use Rattle.machine.specs.Outcome.{Outcome}
 use Rattle.operands.specs.Slots.{registers_of}
-use Rattle.calls.specs.declared.passing.Arguments.{Arguments}
+use Rattle.std.specs.declared.ops.Range.{Range}
 
 -- xs with ys from the place `at` on
 abbrev pub laid : {X : Type 0} → List X → ℕ → List X → List X
 laid xs at ys = take at xs ++ (ys ++ drop (at + length ys) xs)
 
 -- registers that are all set, by their values
-abbrev pub Passes : Memory → List (Option Value) → Outcome (List Val) → Result Arguments Ending → Type 0
+abbrev pub Passes : Memory → List (Option Value) → Outcome (List Val) → Result (Range ℕ) Ending → Type 0
 Passes m xs x (Ok a) =
     (vs : List Val)
     × (x ≡ Ok vs)
-    × (map Some vs ≡ registers_of m (take a.count (drop a.from xs)))
-    × (length vs ≡ a.count)
+    × (map Some vs ≡ registers_of m (take (a.end - a.start) (drop a.start xs)))
+    × (length vs ≡ a.end - a.start)
 Passes m xs x (Err e) = x ≡ Err e
 
-abbrev pub PassesWithin : ℕ → Result Arguments Ending → Type 0
-PassesWithin n (Ok a) = a.from + a.count ≤ n
+abbrev pub PassesWithin : ℕ → Result (Range ℕ) Ending → Type 0
+PassesWithin n (Ok a) = (a.start ≤ a.end) × (a.end ≤ n)
 PassesWithin n (Err e) = Unit {0}
 
 -- a callee's registers: n registers from `from` on, and unset ones

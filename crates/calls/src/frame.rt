@@ -1,6 +1,13 @@
-// Frames of calls. The registers of all frames are one lent slice, the oldest caller's first.
+// Frames of calls, in lent memory.
+ghost use Rattle.std.specs.Prelude.{◌≡◌, ℕ, ◌*◌, ◌<◌, ◌≤◌, [], length};
+ghost use Rattle.text.specs.Memory.{Memory};
+ghost use Rattle.machine.specs.Limits.{registers_per_frame, most_frames};
+ghost use Rattle.machine.specs.State.{World, passed, at};
+ghost use Rattle.stack.specs.Held.{held, room};
+
 use code::table::Place;
-use store::value::Identifier;
+use stack::Stack;
+use store::value::{Identifier, Value};
 
 // The registers of a frame, and the frames of a run: the running one is one of them.
 pub const REGISTERS: usize = 128;
@@ -14,9 +21,62 @@ pub struct Frame {
     pub pc: Place,
 }
 
-// The running frame, and how many callers wait for it.
-#[derive(Clone, Copy)]
-pub struct Calls {
+// A run begins at the first place of function 0.
+const FIRST: Frame = Frame {
+    function: Identifier(0),
+    pc: Place(0),
+};
+
+// The running frame, the callers that wait for it, and the registers of all in one slice, the oldest caller's first.
+// Whatever is lent makes frames: a run looks at the sizes before its first step.
+#[derive(Drop)]
+pub struct Frames<'c, 'r> {
     pub running: Frame,
-    pub waiting: usize,
+    pub callers: Stack<'c, Frame>,
+    pub registers: &'r mut [Option<Value>],
+    ghost few: { length (held callers) < most_frames },
+}
+
+impl<'c, 'r> Frames<'c, 'r> {
+    ghost use Rattle.calls.specs.Frames.{waiting, window, state_of, LiveWithin, Sized, SameFrames};
+
+    pub fn new(callers: &'c mut [Frame], registers: &'r mut [Option<Value>]) -> Frames<'c, 'r>
+        ensures none { held result.callers ≡ [] }
+        ensures callers { (result.callers.items.ghost_name ≡ callers.entry.ghost_name) × (room result.callers ≡ length callers.old) }
+        ensures registers { result.registers ≡ registers.entry }
+    {
+        Frames {
+            running: FIRST,
+            callers: Stack::new(callers),
+            registers,
+        }
+    }
+
+    // The first frame of a run, with no register set.
+    pub fn begin(&mut self)
+        requires { registers_per_frame ≤ length self.old.registers.now }
+        ensures begun { (m : Memory) (W : World) → at 0 0 (passed []) [] W ≡ state_of m self.new W }
+        ensures within { (u : ℕ) → LiveWithin u self.new }
+        ensures lent { SameFrames self.old self.new }
+    {
+        self.running = FIRST;
+        self.callers.clear();
+        self.registers[..REGISTERS].fill(None);
+    }
+
+    // Where the registers of the running frame begin.
+    pub fn base(&self) -> usize
+        ensures { result ≡ registers_per_frame * waiting self.now }
+    {
+        REGISTERS * self.callers.len()
+    }
+
+    // The registers of the running frame.
+    pub fn current(&self) -> &[Option<Value>]
+        requires { Sized self.now }
+        ensures { result.now ≡ window self.now.registers.now (waiting self.now) }
+    {
+        let base = self.base();
+        &self.registers[base..base + REGISTERS]
+    }
 }

@@ -1,10 +1,10 @@
 // Calls: the machine's own functions, and frames for all others.
 #![tactic(auto)]
 
-pub mod beginning;
 pub mod builtins;
 pub mod calling;
+pub mod entering;
 pub mod frame;
-pub mod passing;
+pub mod passed;
+pub mod program;
 pub mod returning;
-mod waiting;

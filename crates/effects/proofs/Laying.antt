@@ -1,21 +1,13 @@
--- Bytes laid over others, byte by byte or at once.
-use Rattle.std.proofs.Common.{◌≡◌, ℕ, ◌+◌, ◌<◌, ◌≤◌, List, [], ◌++◌, length, get_or, take, drop, set, sym, refl, ap, ◌∙◌, arith, rules}
-use borrow.Rule.Slice.PartMut.{put_mid}
-use Rattle.std.proofs.lemmas.List.{same_lists, places, append_assoc, drop-drop, take_at, length-append, length-take-le, get_or-set_same, get_or-set_other, get_or_default}
-use Rattle.std.proofs.lemmas.Bool.{cases_eq}
+-- Bytes laid over others, and what a span of them means.
+use Rattle.std.proofs.Common.{◌≡◌, ℕ, ◌+◌, ◌-◌, ◌<◌, ◌≤◌, List, ◌++◌, length, get_or, take, drop, sym, refl, ap, ◌∙◌, arith, rules}
+use borrow.Rule.Slice.PartMut.{put_mid, post_of}
+use Rattle.std.proofs.lemmas.List.{same_lists, places, append_assoc, drop-drop, take_at, length-append, length-take-le, get_or_default, get_or-take}
 use Rattle.text.specs.declared.span.Span.{Span}
 use Rattle.text.specs.declared.span.Space.TheVariants.{Made}
 use Rattle.text.specs.Memory.{Memory, bytes_of}
 use Rattle.text.specs.Agree.{Grown, made_end}
 use Rattle.text.specs.Meanings.{length-bytes_of, get_or-bytes_of, bytes_of-grown}
 use Rattle.effects.specs.Laid.{laid}
-
-pub laid_none : (xs : List ℕ) (at : ℕ) → xs ≡ laid xs at []
-laid_none xs at = same_lists _ _ (search (rules, places)) (λ k d h. grind (arith, places))
-
-pub laid_more : (xs ys : List ℕ) (at i b : ℕ) → i < length ys → at + length ys ≤ length xs → b ≡ get_or ys i 0 → set (laid xs at (take i ys)) (at + i) b ≡ laid xs at (take (i + 1) ys)
-laid_more xs ys at i b h k e =
-    same_lists _ _ (search (rules, places)) (λ j d l. let x = cases_eq j (at + i) in grind (arith, places, get_or-set_same, get_or-set_other))
 
 pub laid-at-once : (xs ys : List ℕ) (at n : ℕ) → n ≡ length ys → put_mid at n xs ys ≡ laid xs at ys
 laid-at-once xs ys at n e =
@@ -47,19 +39,22 @@ laid-means m at n ys e h =
     let b : k < n = omega (arith, length-bytes_of after t) in
     get_or-bytes_of after t k d b ∙ laid-at m.made ys at k d (omega arith) (omega arith))
 
--- one string behind the other
-pub laid-twice : (xs ys zs : List ℕ) (at : ℕ) → at + length ys + length zs ≤ length xs → laid (laid xs at ys) (at + length ys) zs ≡ laid xs at (ys ++ zs)
-laid-twice xs ys zs at h = same_lists _ _ (search (rules, places)) (λ k d l. grind (arith, places))
+-- a string that ends by u needs no more than the first u bytes made
+pub front-means : (m : Memory) (u : ℕ) (s : Span) → made_end s ≤ u → bytes_of (record { fixed = m.fixed; texts = m.texts; made = take u m.made }) s ≡ bytes_of m s
+front-means m u s h =
+    bytes_of-grown u (record { fixed = m.fixed; texts = m.texts; made = take u m.made }) m s (refl, refl, λ i l. get_or-take u m.made i 0 l) h
 
--- what two copies leave, where the second string lies before the first copy
-pub both-laid : (m : Memory) (a b : Span) (at : ℕ) (one two : List ℕ) → at + a.len + b.len ≤ length m.made → made_end b ≤ at → one ≡ laid m.made at (bytes_of m a) → two ≡ laid one (at + a.len) (bytes_of (record { fixed = m.fixed; texts = m.texts; made = one }) b) → two ≡ laid m.made at (bytes_of m a ++ bytes_of m b)
-both-laid m a b at one two h l e f =
-    let x = bytes_of m a in
-    let n = length-bytes_of m a in
-    let k = length-bytes_of m b in
-    let after : Memory = record { fixed = m.fixed; texts = m.texts; made = laid m.made at x } in
-    let second : bytes_of after b ≡ bytes_of m b = sym (bytes_of-grown at m after b (laid-grown m at x (omega arith)) l) in
-    f ∙ ap (λ (z : List ℕ). laid z (at + a.len) (bytes_of (record { fixed = m.fixed; texts = m.texts; made = z }) b)) e
-    ∙ ap (laid (laid m.made at x) (at + a.len)) second
-    ∙ ap (λ j. laid (laid m.made at x) (at + j) (bytes_of m b)) (sym n)
-    ∙ laid-twice m.made x (bytes_of m b) at (omega arith)
+-- two strings written one behind the other into what stands from u on
+pub both-laid : (xs made room one two : List ℕ) (u a b : ℕ) → made ≡ take u xs → room ≡ drop u xs → length one ≡ a → length two ≡ b → u + (a + b) ≤ length xs → made ++ (take a (one ++ drop a room) ++ (two ++ post_of a (a + b - a) (one ++ drop a room))) ≡ laid xs u (one ++ two)
+both-laid xs made room one two u a b em er ea eb h =
+    rw (em, er) (same_lists _ _ (search (rules, places)) (λ k d l. grind (arith, places)))
+
+-- what a concatenation leaves, where both strings are read from the bytes before u
+pub concat-laid : (m : Memory) (a b : Span) (xs made room one two : List ℕ) (u s : ℕ) → s ≡ u → xs ≡ m.made → made ≡ take s xs → room ≡ drop s xs → one ≡ bytes_of (record { fixed = m.fixed; texts = m.texts; made = made }) a → two ≡ bytes_of (record { fixed = m.fixed; texts = m.texts; made = made }) b → made_end a ≤ u → made_end b ≤ u → u + (a.len + b.len) ≤ length m.made → made ++ (take a.len (one ++ drop a.len room) ++ (two ++ post_of a.len (a.len + b.len - a.len) (one ++ drop a.len room))) ≡ laid m.made u (bytes_of m a ++ bytes_of m b)
+concat-laid m a b xs made room one two u s es ex em er ea eb ha hb h =
+    let x : one ≡ bytes_of m a = rw (ea, em, es, ex) (front-means m u a ha) in
+    let y : two ≡ bytes_of m b = rw (eb, em, es, ex) (front-means m u b hb) in
+    let am = rw (es, ex) at em in
+    let ar = rw (es, ex) at er in
+    both-laid m.made made room one two u a.len b.len am ar (ap length x ∙ length-bytes_of m a) (ap length y ∙ length-bytes_of m b) h
+    ∙ (λ i. laid m.made u (x i ++ y i))

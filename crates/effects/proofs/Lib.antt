@@ -1,3 +1,2 @@
-pub mod Numeral
 pub mod Laying
 pub mod Spends

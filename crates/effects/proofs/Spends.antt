@@ -1,34 +1,42 @@
 -- What a print or a new string leaves, as the effects say.
-use Rattle.std.proofs.Common.{◌≡◌, ℕ, suc, ◌+◌, ◌-◌, ◌<◌, ◌≤◌, true, false, ◌&&◌, ltb, leb, List, ◌++◌, length, take, Ok, Err, sym, ap, ◌∙◌, arith}
-use Rattle.std.proofs.lemmas.Bool.{le-leb, lt-leb}
+use Rattle.std.proofs.Common.{◌≡◌, ℕ, ◌+◌, ◌-◌, ◌<◌, ◌≤◌, List, ◌++◌, length, take, Ok, Err, sym, refl, ap, ◌∙◌, add-one, inl, inr, arith}
+use borrow.Rule.Slice.PartMut.{put_mid}
+use Rattle.std.proofs.lemmas.Bool.{cases_lt, le-leb, lt-leb, le-ltb, lt-ltb}
+use Rattle.machine.specs.declared.ending.Ending.{Ending}
 use Rattle.machine.specs.declared.ending.Ending.TheVariants.{NoTextSpace, NoOutputSpace}
 use Rattle.machine.specs.Limits.{most_strings, most_string_bytes}
-use Rattle.machine.specs.Effects.{charge, print}
-use Rattle.effects.specs.declared.spent.Spent.{Spent}
+use Rattle.machine.specs.Effects.{Effects, charge, print}
+use Rattle.effects.specs.declared.output.Output.{Output}
 use Rattle.effects.specs.Laid.{laid}
-use Rattle.effects.specs.Spending.{effects_of, Prints}
-use Rattle.effects.proofs.Laying.{take-laid, length-laid}
+use Rattle.effects.specs.declared.strings.Strings.{Strings}
+use Rattle.effects.specs.Spending.{effects_with, Prints}
+use Rattle.effects.proofs.Laying.{laid-at-once, take-laid, length-laid}
 
-module _ (s : List ℕ) (p : Spent) (out : List ℕ) where
-  pub print-fits : (q : Spent) (after : List ℕ) → p.printed + length s ≤ length out → after ≡ laid out p.printed s → q.strings ≡ p.strings → q.bytes ≡ p.bytes → q.printed ≡ p.printed + length s → Prints s p out (Ok tt) q after
+module _ (s : List ℕ) (o : Output) where
+  pub print-fits : (ys after : List ℕ) (end : ℕ) → ys ≡ s → end ≡ o.printed + length s → end ≤ length o.bytes.now → after ≡ put_mid o.printed (end - o.printed) o.bytes.now ys → ((p : Strings) → print s (effects_with p o) ≡ Ok (record { strings = p.count; bytes = p.used; output = take end after; left = length after - end })) × (after ≡ laid o.bytes.now o.printed s)
   unfolding print
-  print-fits q after h e es eb ep =
-      let fits = le-leb (length s) (length out - p.printed) (omega arith) in
-      let shown : take p.printed out ++ s ≡ take q.printed after = rw (ep, e) (sym (take-laid out s p.printed h)) in
-      let rest : length out - p.printed - length s ≡ length after - q.printed = omega (arith, ap length e ∙ length-laid out s p.printed h) in
-      (rw fits (ap Ok (λ i. record { strings = sym es i; bytes = sym eb i; output = shown i; left = rest i })), e)
+  print-fits ys after end same e h put =
+      let laid : after ≡ laid o.bytes.now o.printed s = put ∙ ap (put_mid o.printed (end - o.printed) o.bytes.now) same ∙ laid-at-once o.bytes.now s o.printed (end - o.printed) (omega arith) in
+      let fits = le-leb (length s) (length o.bytes.now - o.printed) (omega arith) in
+      let shown : take o.printed o.bytes.now ++ s ≡ take end after = rw (e, laid) (sym (take-laid o.bytes.now s o.printed (omega arith))) in
+      let rest : length o.bytes.now - o.printed - length s ≡ length after - end = omega (arith, ap length laid ∙ length-laid o.bytes.now s o.printed (omega arith)) in
+      (λ p. rw fits (ap Ok (λ i. record { strings = p.count; bytes = p.used; output = shown i; left = rest i })), laid)
 
-  pub print-full : p.printed ≤ length out → length out < p.printed + length s → print s (effects_of p out) ≡ Err NoOutputSpace
+  pub print-full : (e : Ending) (n : ℕ) → n ≡ length s → e ≡ NoOutputSpace → length o.bytes.now < o.printed + n → Prints s o (Err e) o
   unfolding print
-  print-full h l = rw (lt-leb (length s) (length out - p.printed) (omega arith))
+  print-full e n k is l = (λ p. rw (is, lt-leb (length s) (length o.bytes.now - o.printed) (omega (arith, o.within))), refl)
 
-module _ (n : ℕ) (p : Spent) (out : List ℕ) where
-  pub charge-fits : (q : Spent) → (ltb p.strings most_strings && leb (p.bytes + n) most_string_bytes) ≡ true → q.strings ≡ p.strings + 1 → q.bytes ≡ p.bytes + n → q.printed ≡ p.printed → charge n (effects_of p out) ≡ Ok (effects_of q out)
+module _ (n : ℕ) (o : Effects) where
+  pub charge-fits : o.strings < most_strings → o.bytes + n ≤ most_string_bytes → charge n o ≡ Ok (record { strings = o.strings + 1; bytes = o.bytes + n; output = o.output; left = o.left })
   unfolding charge
-  charge-fits q h es eb ep =
-      let one : suc p.strings ≡ q.strings = omega arith in
-      rw h (ap Ok (λ i. record { strings = one i; bytes = sym eb i; output = take (sym ep i) out; left = length out - sym ep i }))
+  charge-fits h k =
+      rw (lt-ltb o.strings most_strings h, le-leb (o.bytes + n) most_string_bytes k)
+      (ap Ok (λ i. record { strings = sym (add-one o.strings) i; bytes = o.bytes + n; output = o.output; left = o.left }))
 
-  pub charge-full : (ltb p.strings most_strings && leb (p.bytes + n) most_string_bytes) ≡ false → charge n (effects_of p out) ≡ Err NoTextSpace
+  pub charge-full : (o.strings < most_strings → most_string_bytes < o.bytes + n) → charge n o ≡ Err NoTextSpace
   unfolding charge
-  charge-full h = rw h
+  charge-full h =
+      elim (cases_lt o.strings most_strings) [
+        | inl a ↦ rw (lt-ltb o.strings most_strings a, lt-leb (o.bytes + n) most_string_bytes (h a))
+        | inr b ↦ rw (le-ltb o.strings most_strings b)
+      ]

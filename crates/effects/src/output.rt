@@ -1,61 +1,69 @@
 // The output of a run, in lent bytes.
-ghost use Rattle.std.specs.Prelude.{◌≡◌, ◌+◌, ◌≤◌, length, nat_le};
+ghost use Rattle.std.specs.Prelude.{◌≡◌, ◌≤◌, length};
 ghost use Rattle.std.specs.Fmt.{signed_decimal};
 ghost use Rattle.text.specs.Memory.{memory_of, bytes_of};
-ghost use Rattle.effects.specs.Spending.{Prints};
 
-use crate::decimal::write_decimal;
-use crate::spent::Spent;
+use crate::copying::copy_string;
+use itoa::Buffer;
 use machine::ending::Ending;
-use text::span::{Bytes, Span, byte_at};
+use text::span::{Bytes, Span};
 
-fn fits(at: usize, n: usize, room: usize) -> bool
-    ensures { result ≡ nat_le (at + n) room }
-{
-    at <= room && n <= room - at
+// The bytes lent, and how many of them are printed.
+#[derive(Drop)]
+pub struct Output<'o> {
+    pub bytes: &'o mut [u8],
+    pub printed: usize,
+    ghost within: { printed ≤ length bytes.now },
 }
 
-// Prints what fits; what does not leaves everything as it was.
-fn print_text(text: &[u8], spent: &mut Spent, out: &mut [u8]) -> Result<(), Ending>
-    ensures printed { spent.old.printed ≤ length out.old → Prints text.now spent.old out.old result spent.new out.new }
-    ensures within { spent.old.printed ≤ length out.old → spent.new.printed ≤ length out.new }
-{
-    let at = spent.printed;
-    let n = text.len();
-    if !fits(at, n, out.len()) {
-        return Err(Ending::NoOutputSpace);
-    }
-    out[at..at + n].copy_from_slice(text);
-    spent.printed = at + n;
-    Ok(())
-}
+impl<'o> Output<'o> {
+    ghost use Rattle.effects.specs.Spending.{SameSlice, Prints, Room};
 
-pub fn print_integer(n: i32, spent: &mut Spent, out: &mut [u8]) -> Result<(), Ending>
-    ensures printed { spent.old.printed ≤ length out.old → Prints (signed_decimal n) spent.old out.old result spent.new out.new }
-    ensures within { spent.old.printed ≤ length out.old → spent.new.printed ≤ length out.new }
-{
-    let mut buffer = [0; 11];
-    let at = write_decimal(n, &mut buffer);
-    print_text(&buffer[at..], spent, out)
-}
+    pub fn new(bytes: &'o mut [u8]) -> Output<'o>
+        ensures none { result.printed ≡ 0 }
+        ensures lent { result.bytes ≡ bytes.entry }
+    {
+        Output { bytes, printed: 0 }
+    }
 
-pub fn print_string(
-    string: Span,
-    bytes: Bytes<'_, '_, '_>,
-    spent: &mut Spent,
-    out: &mut [u8],
-) -> Result<(), Ending>
-    ensures printed { spent.old.printed ≤ length out.old → Prints (bytes_of (memory_of bytes.entry) string) spent.old out.old result spent.new out.new }
-    ensures within { spent.old.printed ≤ length out.old → spent.new.printed ≤ length out.new }
-{
-    let at = spent.printed;
-    let n = string.len as usize;
-    if !fits(at, n, out.len()) {
-        return Err(Ending::NoOutputSpace);
+    pub fn clear(&mut self)
+        ensures none { self.new.printed ≡ 0 }
+        ensures lent { self.new.bytes ≡ self.old.bytes }
+    {
+        self.printed = 0;
     }
-    for i in 0..n {
-        out[at + i] = byte_at(bytes, string.space, string.start as usize + i);
+
+    // Where n more bytes end, or no space for them.
+    fn end(&self, n: usize) -> Result<usize, Ending>
+        ensures { Room n self.now result }
+    {
+        if n > self.bytes.len() - self.printed {
+            Err(Ending::NoOutputSpace)
+        } else {
+            Ok(self.printed + n)
+        }
     }
-    spent.printed = at + n;
-    Ok(())
+
+    // Prints what fits; what does not leaves everything as it was.
+    pub fn print_integer(&mut self, n: i32) -> Result<(), Ending>
+        ensures printed { Prints (signed_decimal n) self.old result self.new }
+        ensures lent { SameSlice self.old.bytes self.new.bytes }
+    {
+        let mut buffer = Buffer::new();
+        let digits = buffer.format(n).as_bytes();
+        let end = self.end(digits.len())?;
+        self.bytes[self.printed..end].copy_from_slice(digits);
+        self.printed = end;
+        Ok(())
+    }
+
+    pub fn print_string(&mut self, string: Span, bytes: Bytes<'_, '_, '_>) -> Result<(), Ending>
+        ensures printed { Prints (bytes_of (memory_of bytes.entry) string) self.old result self.new }
+        ensures lent { SameSlice self.old.bytes self.new.bytes }
+    {
+        let end = self.end(string.len as usize)?;
+        copy_string(string, bytes, &mut self.bytes[self.printed..end]);
+        self.printed = end;
+        Ok(())
+    }
 }

@@ -1,28 +1,31 @@
-// What a run has spent: strings made, their bytes, and bytes printed.
-ghost use Rattle.std.specs.Prelude.{◌≡◌};
+// What a run has spent: strings made, and output printed.
+ghost use Rattle.std.specs.Prelude.{◌≡◌, take};
 
-#[derive(Clone, Copy)]
-pub struct Spent {
-    pub(crate) strings: u16,
-    pub(crate) bytes: u16,
-    pub(crate) printed: usize,
+use crate::output::Output;
+use crate::strings::Strings;
+
+#[derive(Drop)]
+pub struct Spent<'m, 'o> {
+    pub strings: Strings<'m>,
+    pub output: Output<'o>,
 }
 
-impl Spent {
-    pub fn nothing() -> Spent
-        ensures { (result.strings ≡ 0) × (result.bytes ≡ 0) × (result.printed ≡ 0) }
+impl<'m, 'o> Spent<'m, 'o> {
+    // Nothing yet, over lent bytes for strings and for output.
+    pub fn nothing(strings: &'m mut [u8], output: &'o mut [u8]) -> Spent<'m, 'o>
+        ensures nothing { (result.strings.count ≡ 0) × (result.strings.used ≡ 0) × (result.output.printed ≡ 0) }
+        ensures lent { (result.strings.bytes ≡ strings.entry) × (result.output.bytes ≡ output.entry) }
     {
         Spent {
-            strings: 0,
-            bytes: 0,
-            printed: 0,
+            strings: Strings::new(strings),
+            output: Output::new(output),
         }
     }
 
-    // How many bytes were printed.
-    pub fn printed(self) -> usize
-        ensures { result ≡ self.printed }
+    // The bytes printed.
+    pub fn printed(&self) -> &[u8]
+        ensures { result.now ≡ take self.now.output.printed self.now.output.bytes.now }
     {
-        self.printed
+        &self.output.bytes[..self.output.printed]
     }
 }

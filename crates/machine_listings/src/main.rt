@@ -3,18 +3,18 @@
 
 use crate::listings::{FIXED, LISTINGS, Listing};
 use buckets::{BucketStore, UNLINKED, UNUSED};
-use calls::frame::{Calls, Frame};
+use calls::frame::Frame;
+use calls::program::Code;
 use code::table::{Full, Open, Place, Record, Sealed, UNLAID};
-use effects::spent::Spent;
+use effects::literals::Literals;
 use list::ListStore;
 use machine::ending::Ending;
-use operands::globals::Globals;
 use std::io;
 use store::Store;
 use store::capacity::Capacity;
 use store::key::Key;
 use store::value::{Identifier, Location, Value};
-use vm::run::{begin, steps};
+use vm::run::Run;
 
 mod listings;
 
@@ -50,41 +50,27 @@ fn show_end(rt: &HostRuntime, made: u32, ending: Ending, printed: &[u8]) -> io::
 // A run of sealed code from its beginning.
 fn run<S: Store>(
     rt: &HostRuntime,
-    code: &Sealed,
+    sealed: &Sealed,
     records: &[Record],
     store: &mut S,
 ) -> io::Result<()> {
-    let mut calls = Calls {
-        running: NO_FRAME,
-        waiting: 0,
-    };
     let mut callers = [NO_FRAME; 31];
     let mut registers = [None; 4096];
-    let mut globals = Globals::new();
-    let mut spent = Spent::nothing();
-    let mut made = [0; 32768];
-    let mut out = [0; 24];
-    let begun = begin(&mut calls, &mut registers, &mut globals, &mut spent, store);
-    let ran = steps(
-        BUDGET,
-        code,
+    let mut strings = [0; 32768];
+    let mut output = [0; 24];
+    let mut run = Run::new(&mut callers, &mut registers, &mut strings, &mut output);
+    let code = Code {
+        sealed,
         records,
-        &mut calls,
-        &mut callers,
-        &mut registers,
-        &mut globals,
-        store,
-        FIXED,
-        b"",
-        &mut made,
-        &mut spent,
-        &mut out,
-    );
-    match (begun, ran) {
+        literals: Literals {
+            fixed: FIXED,
+            texts: b"",
+        },
+    };
+    match (run.begin(store), run.steps(BUDGET, code, store)) {
         (Ok(()), Ok(ran)) => {
             let ending = ran.ending.unwrap_or(Ending::NotEnded);
-            let printed = spent.printed().min(out.len());
-            show_end(rt, ran.steps, ending, &out[..printed])
+            show_end(rt, ran.steps, ending, run.spent.printed())
         }
         _ => print!(rt; "too little memory"),
     }

@@ -26,10 +26,25 @@ impl<'a, T: Copy> Stack<'a, T> {
         Stack { items, len }
     }
 
+    // Takes all items off; they stay in the slice.
+    pub fn clear(&mut self)
+        ensures held { held self.new ≡ [] }
+        ensures lent { self.new.items ≡ self.old.items }
+    {
+        self.len = 0;
+    }
+
     pub fn len(&self) -> usize
         ensures { result ≡ length (held self.now) }
     {
         self.items().len()
+    }
+
+    // How many items the stack can hold.
+    pub fn room(&self) -> usize
+        ensures { result ≡ room self.now }
+    {
+        self.items.len()
     }
 
     pub fn is_empty(&self) -> bool

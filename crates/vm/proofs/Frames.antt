@@ -1,7 +1,8 @@
 -- Instructions seen from the frame that they run in.
-use Rattle.std.proofs.Common.{◌≡◌, ℕ, ◌+◌, ◌-◌, ◌*◌, ◌≤◌, List, length, take, Ok, Err, Option, Result, sym, refl, ap, ◌∙◌, subst, inl, inr, arith}
+use Rattle.std.proofs.Common.{◌≡◌, ℕ, ◌+◌, ◌-◌, ◌*◌, ◌≤◌, List, length, take, drop, Ok, Err, Option, Result, sym, refl, ap, ◌∙◌, subst, inl, inr, arith, rules}
 use borrow.Rule.Slice.PartMut.{put_mid, take_put}
 use Rattle.std.proofs.lemmas.Bool.{cases_lt}
+use Rattle.std.proofs.lemmas.List.{places}
 use Rattle.text.specs.Memory.{Memory}
 use Rattle.store.specs.declared.value.Value.{Value}
 use Rattle.store.specs.Val.{Val}
@@ -18,73 +19,81 @@ use Rattle.operands.specs.Slots.{registers_of, Within}
 use Rattle.instructions.specs.Local.{local, Stays}
 use Rattle.instructions.proofs.Local.{exec-local}
 use Rattle.calls.specs.declared.frame.Frame.{Frame}
-use Rattle.calls.specs.declared.frame.Calls.{Calls}
-use Rattle.calls.specs.Frames.{window, callers_of, state_of, LiveWithin, Moved}
-use Rattle.calls.proofs.Windows.{part, part-window, window-put, window-kept, callers-kept}
+use Rattle.calls.specs.declared.frame.Frames.{Frames}
+use Rattle.stack.specs.Held.{held}
+use Rattle.calls.specs.Frames.{waiting, window, callers_of, callers_in, state_at, state_of, LiveIn, Moved}
+use Rattle.calls.proofs.Windows.{part-window, window-put, window-kept, callers-kept}
 use Rattle.vm.specs.Standing.{return_from, halt_from}
 
--- a register of the running frame, as it is lent
-value-here : (m : Memory) (xs : List (Option Value)) (w a : ℕ) → value_at (registers_of m (part xs w)) a ≡ value_at (registers_of m (window xs w)) a
-value-here m xs w a = ap (λ (z : List (Option Value)). value_at (registers_of m z) a) (part-window xs w)
+module _ (m : Memory) (f : Frames) (W : World) (a : ℕ) (ys : List (Option Value)) (here : ys ≡ window f.registers.now (waiting f)) where
+  -- a register of the running frame, as it is lent
+  value-here : value_at (registers_of m ys) a ≡ value_at (registers_of m (window f.registers.now (waiting f))) a
+  value-here = ap (λ (z : List (Option Value)). value_at (registers_of m z) a) here
 
-module _ (m : Memory) (xs : List (Option Value)) (fs : List Frame) (c : Calls) (W : World) (a : ℕ) where
-  pub halt-with : (v : Val) → Ok v ≡ value_at (registers_of m (part xs c.waiting)) a → halt_from a (state_of m xs fs c W) ≡ Err (halted v)
-  unfolding state_of
-  halt-with v h = rw (← value-here m xs c.waiting a, ← h)
+  pub halt-with : (v : Val) → Ok v ≡ value_at (registers_of m ys) a → halt_from a (state_of m f W) ≡ Err (halted v)
+  unfolding state_at
+  halt-with v h = rw (← value-here, ← h)
 
-  pub halt-without : (e : Ending) → Err e ≡ value_at (registers_of m (part xs c.waiting)) a → halt_from a (state_of m xs fs c W) ≡ Err e
-  unfolding state_of
-  halt-without e h = rw (← value-here m xs c.waiting a, ← h)
+  pub halt-without : (e : Ending) → Err e ≡ value_at (registers_of m ys) a → halt_from a (state_of m f W) ≡ Err e
+  unfolding state_at
+  halt-without e h = rw (← value-here, ← h)
 
-  pub return-with : (P : Program) (v : Val) → Ok v ≡ value_at (registers_of m (part xs c.waiting)) a → return_from P a (state_of m xs fs c W) ≡ return P v (callers_of m xs fs c.waiting) W
-  unfolding state_of
-  return-with P v h = rw (← value-here m xs c.waiting a, ← h)
+  pub return-with : (P : Program) (v : Val) → Ok v ≡ value_at (registers_of m ys) a → return_from P a (state_of m f W) ≡ return P v (callers_in m f) W
+  unfolding state_at
+  return-with P v h = rw (← value-here, ← h)
 
-  pub return-without : (P : Program) (e : Ending) → Err e ≡ value_at (registers_of m (part xs c.waiting)) a → return_from P a (state_of m xs fs c W) ≡ Err e
-  unfolding state_of
-  return-without P e h = rw (← value-here m xs c.waiting a, ← h)
+  pub return-without : (P : Program) (e : Ending) → Err e ≡ value_at (registers_of m ys) a → return_from P a (state_of m f W) ≡ Err e
+  unfolding state_at
+  return-without P e h = rw (← value-here, ← h)
 
 -- the same move by another name
-pub moved_as : (m : Memory) (W : World) (x y : Outcome State) (r : Result (Unit {0}) Ending) (xs ys : List (Option Value)) (fs gs : List Frame) (c d : Calls) → x ≡ y → Moved m W y r xs fs c ys gs d → Moved m W x r xs fs c ys gs d
-moved_as m W x y r xs ys fs gs c d e h = subst (λ (z : Outcome State). Moved m W z r xs fs c ys gs d) (sym e) h
+pub moved_as : (m : Memory) (W : World) (x y : Outcome State) (r : Result (Unit {0}) Ending) (f g : Frames) → x ≡ y → Moved m W y r f g → Moved m W x r f g
+moved_as m W x y r f g e h = subst (λ (z : Outcome State). Moved m W z r f g) (sym e) h
 
--- the running frame's registers after they were lent
-module _ (xs zs : List (Option Value)) (w : ℕ) (sized : registers_per_frame * w + registers_per_frame ≤ length xs) (len : length zs ≡ registers_per_frame) where
+-- the registers of the running frame, from its base on
+pub lent-window : (xs : List (Option Value)) (b w : ℕ) → b ≡ registers_per_frame * w → take (b + registers_per_frame - b) (drop b xs) ≡ window xs w
+lent-window xs b w e = ap (λ n. take (n + registers_per_frame - n) (drop n xs)) e ∙ part-window xs w
+
+-- the same after they were lent
+module _ (xs zs : List (Option Value)) (b w : ℕ) (base : b ≡ registers_per_frame * w) (sized : registers_per_frame * w + registers_per_frame ≤ length xs) (len : length zs ≡ registers_per_frame) where
   abbrev after : List (Option Value)
-  after = put_mid (registers_per_frame * w) (registers_per_frame * w + registers_per_frame - registers_per_frame * w) xs zs
+  after = put_mid b (b + registers_per_frame - b) xs zs
 
   front : take (registers_per_frame * w) after ≡ take (registers_per_frame * w) xs
-  front = take_put (registers_per_frame * w) _ xs zs (omega arith)
+  front = ap (λ n. take n after) (sym base) ∙ take_put b _ xs zs (omega arith) ∙ ap (λ n. take n xs) base
 
   running-after : window after w ≡ zs
-  running-after = window-put xs zs _ (registers_per_frame * w) w refl (omega arith) len
+  running-after = window-put xs zs _ b w base (omega arith) len
 
-  pub lent-within : (u : ℕ) → LiveWithin u xs w → Within u zs → LiveWithin u after w
+  pub lent-within : (u : ℕ) → LiveIn u xs w → Within u zs → LiveIn u after w
   lent-within u h f k l =
       elim (cases_lt k w) [
         | inl a ↦ subst (Within u) (sym (window-kept xs after (registers_per_frame * w) k front (omega arith))) (h k (omega arith))
         | inr b ↦ let e : k ≡ w = omega arith in subst (λ i. Within u (window after i)) (sym e) (subst (Within u) (sym running-after) f)
       ]
 
-  pub state-after : (m : Memory) (fs : List Frame) (d : Calls) (W : World) → d.waiting ≡ w → state_of m after fs d W ≡ at d.running.function.0 d.running.pc.0 (registers_of m zs) (callers_of m xs fs w) W
-  unfolding state_of
-  state-after m fs d W e =
-      let regs = ap (λ k. registers_of m (window after k)) e ∙ ap (registers_of m) running-after in
-      let callers = ap (callers_of m after fs) e ∙ callers-kept m xs after fs fs w front (λ j l. refl) in
-      (λ i. at d.running.function.0 d.running.pc.0 (regs i) (callers i) W)
+  pub lent-long : length after ≡ length xs
+  lent-long = search (rules, places)
+
+  pub state-after : (m : Memory) (fs : List Frame) (t : Frame) (W : World) → state_at m after fs w t W ≡ at t.function.0 t.pc.0 (registers_of m zs) (callers_of m xs fs w) W
+  unfolding state_at
+  state-after m fs t W =
+      let regs = ap (registers_of m) running-after in
+      let callers = callers-kept m xs after fs fs w front (λ j l. refl) in
+      (λ i. at t.function.0 t.pc.0 (regs i) (callers i) W)
 
 -- an instruction that stays in its frame is a step of the state
-module _ (P : Program) (L : Limits) (i : Instr) (s : Stays i) (m : Memory) (xs : List (Option Value)) (fs : List Frame) (c : Calls) (T : Tables) (G : Table) (o : Effects) where
-  seen : exec P L i (state_of m xs fs c (record { tables = T; globals = G; effects = o })) ≡ local L i c.running.pc.0 (registers_of m (part xs c.waiting)) T G >>= (λ x. Ok (at c.running.function.0 x.pc x.registers (callers_of m xs fs c.waiting) (record { tables = x.tables; globals = x.globals; effects = o })))
-  unfolding state_of
+module _ (P : Program) (L : Limits) (i : Instr) (s : Stays i) (m : Memory) (f : Frames) (T : Tables) (G : Table) (o : Effects) (ys : List (Option Value)) (here : ys ≡ window f.registers.now (waiting f)) where
+  seen : exec P L i (state_of m f (record { tables = T; globals = G; effects = o })) ≡ local L i f.running.pc.0 (registers_of m ys) T G >>= (λ x. Ok (at f.running.function.0 x.pc x.registers (callers_in m f) (record { tables = x.tables; globals = x.globals; effects = o })))
+  unfolding state_at
   seen =
-      exec-local P L c.running.function.0 c.running.pc.0 (registers_of m (window xs c.waiting)) (callers_of m xs fs c.waiting) (record { tables = T; globals = G; effects = o }) i s
-      ∙ ap (λ (z : List (Option Value)). local L i c.running.pc.0 (registers_of m z) T G >>= (λ x. Ok (at c.running.function.0 x.pc x.registers (callers_of m xs fs c.waiting) (record { tables = x.tables; globals = x.globals; effects = o })))) (sym (part-window xs c.waiting))
+      exec-local P L f.running.function.0 f.running.pc.0 (registers_of m (window f.registers.now (waiting f))) (callers_in m f) (record { tables = T; globals = G; effects = o }) i s
+      ∙ ap (λ (z : List (Option Value)). local L i f.running.pc.0 (registers_of m z) T G >>= (λ x. Ok (at f.running.function.0 x.pc x.registers (callers_in m f) (record { tables = x.tables; globals = x.globals; effects = o })))) (sym here)
 
-  pub stay-ends : (e : Ending) → local L i c.running.pc.0 (registers_of m (part xs c.waiting)) T G ≡ Err e → exec P L i (state_of m xs fs c (record { tables = T; globals = G; effects = o })) ≡ Err e
+  pub stay-ends : (e : Ending) → local L i f.running.pc.0 (registers_of m ys) T G ≡ Err e → exec P L i (state_of m f (record { tables = T; globals = G; effects = o })) ≡ Err e
   stay-ends e h = seen ∙ rw h
 
-  pub stay-goes : (zs : List (Option Value)) (p : ℕ) (U : Tables) (H : Table) (d : Calls) → registers_per_frame * c.waiting + registers_per_frame ≤ length xs → length zs ≡ registers_per_frame → local L i c.running.pc.0 (registers_of m (part xs c.waiting)) T G ≡ Ok (record { pc = p; registers = registers_of m zs; tables = U; globals = H }) → d.running.function.0 ≡ c.running.function.0 → d.running.pc.0 ≡ p → d.waiting ≡ c.waiting → exec P L i (state_of m xs fs c (record { tables = T; globals = G; effects = o })) ≡ Ok (state_of m (put_mid (registers_per_frame * c.waiting) (registers_per_frame * c.waiting + registers_per_frame - registers_per_frame * c.waiting) xs zs) fs d (record { tables = U; globals = H; effects = o }))
-  stay-goes zs p U H d sized len h ef ep ew =
-      seen ∙ rw h (λ k. Ok (at (sym ef k) (sym ep k) (registers_of m zs) (callers_of m xs fs c.waiting) (record { tables = U; globals = H; effects = o })))
-      ∙ ap Ok (sym (state-after xs zs c.waiting sized len m fs d (record { tables = U; globals = H; effects = o }) ew))
+  pub stay-goes : (zs : List (Option Value)) (b p : ℕ) (U : Tables) (H : Table) (t : Frame) → b ≡ registers_per_frame * waiting f → registers_per_frame * waiting f + registers_per_frame ≤ length f.registers.now → length zs ≡ registers_per_frame → local L i f.running.pc.0 (registers_of m ys) T G ≡ Ok (record { pc = p; registers = registers_of m zs; tables = U; globals = H }) → t.function.0 ≡ f.running.function.0 → t.pc.0 ≡ p → exec P L i (state_of m f (record { tables = T; globals = G; effects = o })) ≡ Ok (state_at m (put_mid b (b + registers_per_frame - b) f.registers.now zs) (held f.callers) (waiting f) t (record { tables = U; globals = H; effects = o }))
+  stay-goes zs b p U H t base sized len h ef ep =
+      seen ∙ rw h (λ k. Ok (at (sym ef k) (sym ep k) (registers_of m zs) (callers_in m f) (record { tables = U; globals = H; effects = o })))
+      ∙ ap Ok (sym (state-after f.registers.now zs b (waiting f) base sized len m (held f.callers) t (record { tables = U; globals = H; effects = o })))

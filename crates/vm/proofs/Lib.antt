@@ -4,3 +4,4 @@ pub mod Standing
 pub mod Stepping
 pub mod Runs
 pub mod Beginning
+pub mod Memory

@@ -1,5 +1,6 @@
 -- A run, step by step.
-use Rattle.std.proofs.Common.{◌≡◌, ℕ, suc, ◌+◌, ◌-◌, ◌<◌, Some, None, Ok, Err, ap, ◌∙◌, arith}
+use Rattle.std.proofs.Common.{◌≡◌, ℕ, suc, ◌+◌, ◌-◌, ◌<◌, Some, None, Ok, Err, Option, Result, sym, ap, ◌∙◌, subst, arith}
+use Rattle.std.specs.Result.{result_err}
 use Rattle.machine.specs.declared.ending.Ending.{Ending}
 use Rattle.machine.specs.Limits.{Limits}
 use Rattle.machine.specs.Instr.{Program}
@@ -7,7 +8,7 @@ use Rattle.machine.specs.State.{State, world_of, Next, goes, ends}
 use Rattle.machine.specs.Step.{step}
 use Rattle.machine.specs.Run.{then, further, run, steps_made}
 use Rattle.vm.specs.Standing.{Steps}
-use Rattle.vm.specs.Running.{RanBy}
+use Rattle.vm.specs.Running.{Stepped, RanBy}
 
 -- i of n steps were made and led to a state: what is left gives the end
 abbrev pub Left : Program → Limits → ℕ → ℕ → State → (State → Type 0) → Type 0
@@ -43,3 +44,8 @@ all_made P L n i m stands e (k, r, c, s) =
     let left : run P L (n - i) k ≡ goes k = ap (λ z. run P L z k) d in
     let made : steps_made P L (n - i) k ≡ 0 = ap (λ z. steps_made P L z k) d in
     (omega arith, (k, r ∙ left, s))
+
+-- a step by how it ended the run, if it did
+pub step-ended : (r : Result (Unit {0}) Ending) (o : Option Ending) (x : Next) (m : State) (stands : State → Type 0) → o ≡ result_err r → Steps x m r stands → Stepped x m (Ok o) stands
+step-ended (Ok u) o x m stands e h = subst (λ (z : Option Ending). Stepped x m (Ok z) stands) (sym e) h
+step-ended (Err d) o x m stands e h = subst (λ (z : Option Ending). Stepped x m (Ok z) stands) (sym e) h

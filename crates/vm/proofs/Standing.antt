@@ -1,8 +1,8 @@
 -- What an instruction leaves stands for the state that it leads to.
-use Rattle.std.proofs.Common.{◌≡◌, ℕ, ◌≤◌, List, Ok, Err, Option, Result, sym, refl, ap, ◌∙◌, subst}
+use Rattle.std.proofs.Common.{◌≡◌, ℕ, ◌≤◌, length, Ok, Err, Result, sym, refl, ap, ◌∙◌, subst}
 use Rattle.text.specs.Memory.{Memory}
 use Rattle.text.specs.Agree.{Grown}
-use Rattle.store.specs.declared.value.Value.{Value}
+use Rattle.store.specs.declared.Store.{Ghosts}
 use Rattle.store.specs.Tables.{Table, Tables}
 use Rattle.machine.specs.declared.ending.Ending.{Ending}
 use Rattle.machine.specs.declared.instruction.Instruction.{Instruction}
@@ -18,11 +18,12 @@ use Rattle.operands.specs.declared.globals.Globals.{Globals}
 use Rattle.operands.specs.Globals.{globals_of, GlobalsWithin}
 use Rattle.instructions.specs.Local.{Stays}
 use Rattle.code.specs.Programs.{program_of}
-use Rattle.calls.specs.declared.frame.Frame.{Frame}
-use Rattle.calls.specs.declared.frame.Calls.{Calls}
-use Rattle.calls.specs.Frames.{state_of, LiveWithin, Moved}
-use Rattle.calls.specs.Calling.{Content, world_in, state_in, call_from, Called}
-use Rattle.vm.specs.Standing.{Lent, lent, limits, state_with, Stands, Does, Stayed, return_from, halt_from}
+use Rattle.stack.specs.Held.{held}
+use Rattle.effects.specs.declared.spent.Spent.{Spent}
+use Rattle.calls.specs.declared.frame.Frames.{Frames}
+use Rattle.calls.specs.Frames.{state_at, state_of, LiveWithin, Moved}
+use Rattle.calls.specs.Calling.{Content, content, memory_of, world_in, state_in, call_from, Called}
+use Rattle.vm.specs.Standing.{Lent, lent, content_of, memory_at, limits_of, state_with, Stands, Does, Unmoved, Stayed, return_from, halt_from}
 use Rattle.vm.proofs.Growth.{globals-grown, program-grown, globals-wider, code-wider}
 
 exec-call : (P : Program) (L : Limits) (a b c : ℕ) (m : State) → exec P L (Instr.call a b c) m ≡ call_from a b c m
@@ -66,39 +67,45 @@ staying m (code.Halt a) p q r = r a refl
 pub does-as : (x y : Outcome State) (m : State) (r : Result (Unit {0}) Ending) (stands : State → Type 0) → x ≡ y → Does y m r stands → Does x m r stands
 does-as x y m r stands e h = subst (λ (z : Outcome State). Does z m r stands) (sym e) h
 
-module _ (holds : Memory → Tables → Type 0) (within : ℕ → Type 0) (t r : ℕ) (l : Lent) (P : Program) (L : Limits) (m : State) (s : Stands holds within t r l P L m) where
-  abbrev G : Table
-  G = globals_of l.content.memory l.globals
+module _ {S : Type 0} (G : Ghosts S) (st : S) (l : Lent) (P : Program) (L : Limits) (m : State) (s : Stands G st l P L m) where
+  abbrev globals : Table
+  globals = globals_of (memory_at l) l.run.globals
+
+  -- what is lent, with other strings, output and frames
+  abbrev pub with_content : Content → Lent
+  with_content b = lent l.code (record { frames = b.frames; globals = l.run.globals; spent = b.spent })
 
   -- a call leaves the store and the globals; they mean the same beside more strings
-  called-stands : ((u : ℕ) (m n : Memory) (T : Tables) → within u → Grown u m n → holds m T → holds n T) → ((u v : ℕ) → u ≤ v → within u → within v) → (x : Outcome State) (q : Result (Unit {0}) Ending) (e : Content) → Called l.content s.tables G x q e → Does x m q (Stands holds within t r (lent l.code l.records l.globals e) P L)
-  called-stands grows wider x (Ok _) e h =
-      let u = l.content.spent.bytes in
-      let a = l.content.memory in
-      let b = e.memory in (
-        state_in e (world_in s.tables G e),
+  called-stands : ((u : ℕ) (m n : Memory) (T : Tables) → G.within st u → Grown u m n → G.holds st m T → G.holds st n T) → ((u v : ℕ) → u ≤ v → G.within st u → G.within st v) → (x : Outcome State) (q : Result (Unit {0}) Ending) (p : Spent) (f : Frames) → Called (content_of l) s.tables globals x q (content l.code.literals p f) → Does x m q (Stands G st (with_content (content l.code.literals p f)) P L)
+  called-stands grows wider x (Ok _) p f h =
+      let u = l.run.spent.strings.used in
+      let v = p.strings.used in
+      let e = content l.code.literals p f in
+      let a = memory_at l in
+      let b = memory_of e in (
+        state_in e (world_in s.tables globals e),
         h.state,
         record {
           tables = s.tables;
-          state = ap (λ (z : Table). state_in e (world_in s.tables z e)) (globals-grown u a b h.grown l.globals s.globals-within);
-          program = s.program ∙ program-grown u a b h.grown l.code l.records s.code-within;
+          state = ap (λ (z : Table). state_in e (world_in s.tables z e)) (globals-grown u a b h.grown l.run.globals s.globals-within);
+          program = s.program ∙ program-grown u a b h.grown l.code.sealed.now l.code.records.now s.code-within;
           space = s.space;
           held = grows u a b s.tables s.store-within h.grown s.held;
-          store-within = wider u e.spent.bytes h.more s.store-within;
+          store-within = wider u v h.more s.store-within;
           live-within = h.live;
-          globals-within = globals-wider u e.spent.bytes h.more l.globals s.globals-within;
-          code-within = code-wider u e.spent.bytes h.more l.code l.records s.code-within;
+          globals-within = globals-wider u v h.more l.run.globals s.globals-within;
+          code-within = code-wider u v h.more l.code.sealed.now l.code.records.now s.code-within;
         },
       )
-  called-stands grows wider x (Err c) e h = (h.0, subst (λ (z : Content). Stands holds within t r (lent l.code l.records l.globals z) P L m) (sym h.1) s)
+  called-stands grows wider x (Err c) p f h = (h.0, subst (λ (z : Content). Stands G st (with_content z) P L m) (sym h.1) s)
 
-  pub call-does : ((u : ℕ) (m n : Memory) (T : Tables) → within u → Grown u m n → holds m T → holds n T) → ((u v : ℕ) → u ≤ v → within u → within v) → (i : Instr) (a b c : ℕ) (q : Result (Unit {0}) Ending) (e : Content) → i ≡ Instr.call a b c → Called l.content s.tables G (call_from a b c (state_with l s.tables)) q e → Does (exec P L i m) m q (Stands holds within t r (lent l.code l.records l.globals e) P L)
-  call-does grows wider i a b c q e is h =
-      does-as _ _ m q _ (ap (λ (j : Instr). exec P L j m) is ∙ exec-call P L a b c m ∙ ap (call_from a b c) s.state) (called-stands grows wider _ q e h)
+  pub call-does : ((u : ℕ) (m n : Memory) (T : Tables) → G.within st u → Grown u m n → G.holds st m T → G.holds st n T) → ((u v : ℕ) → u ≤ v → G.within st u → G.within st v) → (i : Instr) (a b c : ℕ) (q : Result (Unit {0}) Ending) (p : Spent) (f : Frames) → i ≡ Instr.call a b c → Called (content_of l) s.tables globals (call_from a b c (state_with l s.tables)) q (content l.code.literals p f) → Does (exec P L i m) m q (Stands G st (with_content (content l.code.literals p f)) P L)
+  call-does grows wider i a b c q p f is h =
+      does-as _ _ m q _ (ap (λ (j : Instr). exec P L j m) is ∙ exec-call P L a b c m ∙ ap (call_from a b c) s.state) (called-stands grows wider _ q p f h)
 
   -- a move of the frames leaves everything else
-  moved-stands : (x : Outcome State) (q : Result (Unit {0}) Ending) (ys : List (Option Value)) (gs : List Frame) (d : Calls) → Moved l.content.memory (world_in s.tables G l.content) x q l.content.registers l.content.callers l.content.calls ys gs d → LiveWithin l.content.spent.bytes ys d.waiting → Does x m q (Stands holds within t r (lent l.code l.records l.globals (record { memory = l.content.memory; spent = l.content.spent; out = l.content.out; registers = ys; callers = gs; calls = d })) P L)
-  moved-stands x (Ok _) ys gs d h live = (
+  moved-stands : (x : Outcome State) (q : Result (Unit {0}) Ending) (f : Frames) → Moved (memory_at l) (world_in s.tables globals (content_of l)) x q l.run.frames f → LiveWithin l.run.spent.strings.used f → Does x m q (Stands G st (with_content (content l.code.literals l.run.spent f)) P L)
+  moved-stands x (Ok _) f h live = (
     _,
     h,
     record {
@@ -113,45 +120,51 @@ module _ (holds : Memory → Tables → Type 0) (within : ℕ → Type 0) (t r :
       code-within = s.code-within;
     },
   )
-  moved-stands x (Err c) ys gs d h live =
-      (h.0, subst (λ (z : Content). Stands holds within t r (lent l.code l.records l.globals z) P L m) (λ i. record { memory = l.content.memory; spent = l.content.spent; out = l.content.out; registers = sym h.1 i; callers = sym h.2 i; calls = sym h.3 i }) s)
+  moved-stands x (Err c) f h live =
+      (h.0, subst (λ (z : Frames). Stands G st (with_content (content l.code.literals l.run.spent z)) P L m) (sym h.1) s)
 
-  pub return-does : (i : Instr) (a : ℕ) (q : Result (Unit {0}) Ending) (ys : List (Option Value)) (gs : List Frame) (d : Calls) → i ≡ Instr.ret a → Moved l.content.memory (world_in s.tables G l.content) (return_from (program_of l.content.memory l.code l.records) a (state_with l s.tables)) q l.content.registers l.content.callers l.content.calls ys gs d → LiveWithin l.content.spent.bytes ys d.waiting → Does (exec P L i m) m q (Stands holds within t r (lent l.code l.records l.globals (record { memory = l.content.memory; spent = l.content.spent; out = l.content.out; registers = ys; callers = gs; calls = d })) P L)
-  return-does i a q ys gs d is h live =
-      does-as _ _ m q _ (ap (λ (j : Instr). exec P L j m) is ∙ exec-return P L a m ∙ (λ k. return_from (s.program k) a (s.state k))) (moved-stands _ q ys gs d h live)
+  pub return-does : (i : Instr) (a : ℕ) (q : Result (Unit {0}) Ending) (f : Frames) → i ≡ Instr.ret a → Moved (memory_at l) (world_in s.tables globals (content_of l)) (return_from (program_of (memory_at l) l.code.sealed.now l.code.records.now) a (state_with l s.tables)) q l.run.frames f → LiveWithin l.run.spent.strings.used f → Does (exec P L i m) m q (Stands G st (with_content (content l.code.literals l.run.spent f)) P L)
+  return-does i a q f is h live =
+      does-as _ _ m q _ (ap (λ (j : Instr). exec P L j m) is ∙ exec-return P L a m ∙ (λ k. return_from (s.program k) a (s.state k))) (moved-stands _ q f h live)
 
-  pub halt-does : (i : Instr) (a : ℕ) (e : Ending) → i ≡ Instr.halt a → halt_from a (state_with l s.tables) ≡ Err e → Does (exec P L i m) m (Err e) (Stands holds within t r l P L)
+  pub halt-does : (i : Instr) (a : ℕ) (e : Ending) → i ≡ Instr.halt a → halt_from a (state_with l s.tables) ≡ Err e → Does (exec P L i m) m (Err e) (Stands G st l P L)
   halt-does i a e is h = (ap (λ (j : Instr). exec P L j m) is ∙ exec-halt P L a m ∙ ap (halt_from a) s.state ∙ h, s)
 
   -- an instruction that stays leaves its frame, the tables and the globals
-  pub stay-does : (holds' : Memory → Tables → Type 0) (within' : ℕ → Type 0) (t' r' : ℕ) (i : Instr) (q : Result (Unit {0}) Ending) (ys : List (Option Value)) (d : Calls) (h : Globals) → t' ≡ t → r' ≡ r → d.waiting ≡ l.content.calls.waiting → Stayed (λ U. Ok (state_of l.content.memory ys l.content.callers d (record { tables = U; globals = globals_of l.content.memory h; effects = effects_of l.content.spent l.content.out }))) (exec P (limits t r) i (state_with l s.tables)) q ((ys ≡ l.content.registers) × (d ≡ l.content.calls) × (h ≡ l.globals)) (holds' l.content.memory) s.tables → LiveWithin l.content.spent.bytes ys l.content.calls.waiting × GlobalsWithin l.content.spent.bytes h × within' l.content.spent.bytes → Does (exec P L i m) m q (Stands holds' within' t' r' (lent l.code l.records h (record { memory = l.content.memory; spent = l.content.spent; out = l.content.out; registers = ys; callers = l.content.callers; calls = d })) P L)
-  stay-does holds' within' t' r' i (Ok _) ys d h et er ew x w = (
+  stayed : (st' : S) (i : Instr) (q : Result (Unit {0}) Ending) (f : Frames) (h : Globals) → limits_of G st' ≡ limits_of G st → Stayed (λ U. Ok (state_of (memory_at l) f (record { tables = U; globals = globals_of (memory_at l) h; effects = effects_of l.run.spent }))) (exec P (limits_of G st) i (state_with l s.tables)) q (Unmoved l.run.frames f × (h ≡ l.run.globals)) (G.holds st' (memory_at l)) s.tables → LiveWithin l.run.spent.strings.used f × GlobalsWithin l.run.spent.strings.used h × G.within st' l.run.spent.strings.used → Does (exec P L i m) m q (Stands G st' (lent l.code (record { frames = f; globals = h; spent = l.run.spent })) P L)
+  stayed st' i (Ok _) f h es x w = (
     _,
     (λ k. exec P (s.space k) i (s.state k)) ∙ x.1,
     record {
       tables = x.0;
       state = refl;
       program = s.program;
-      space = s.space ∙ (λ k. limits (sym et k) (sym er k));
+      space = s.space ∙ sym es;
       held = x.2;
       store-within = w.2;
-      live-within = subst (LiveWithin l.content.spent.bytes ys) (sym ew) w.0;
+      live-within = w.0;
       globals-within = w.1;
       code-within = s.code-within;
     },
   )
-  stay-does holds' within' t' r' i (Err e) ys d h et er ew x w =
+  stayed st' i (Err e) f h es x w =
       let same = x.1 in (
         (λ k. exec P (s.space k) i (s.state k)) ∙ x.0,
         record {
           tables = s.tables;
-          state = s.state ∙ (λ k. state_of l.content.memory (sym same.0 k) l.content.callers (sym same.1 k) (record { tables = s.tables; globals = globals_of l.content.memory (sym same.2 k); effects = effects_of l.content.spent l.content.out }));
+          state = s.state ∙ (λ k. state_at (memory_at l) (sym same.0.registers k) (held (sym same.0.callers k)) (length (held (sym same.0.callers k))) (sym same.0.running k) (record { tables = s.tables; globals = globals_of (memory_at l) (sym same.1 k); effects = effects_of l.run.spent }));
           program = s.program;
-          space = s.space ∙ (λ k. limits (sym et k) (sym er k));
+          space = s.space ∙ sym es;
           held = x.2;
           store-within = w.2;
-          live-within = subst (LiveWithin l.content.spent.bytes ys) (sym ew) w.0;
+          live-within = w.0;
           globals-within = w.1;
           code-within = s.code-within;
         },
       )
+
+  pub stay-does : (n : Memory) → n ≡ memory_at l → (st' : S) (i : Instruction) (q : Result (Unit {0}) Ending) (f : Frames) (h : Globals) → limits_of G st' ≡ limits_of G st → (G.holds st n s.tables → Stayed (λ U. Ok (state_of n f (record { tables = U; globals = globals_of n h; effects = effects_of l.run.spent }))) (exec P (limits_of G st) (instr n i) (state_of n l.run.frames (record { tables = s.tables; globals = globals_of n l.run.globals; effects = effects_of l.run.spent }))) q (Unmoved l.run.frames f × (h ≡ l.run.globals)) (G.holds st' n) s.tables) → LiveWithin l.run.spent.strings.used f × GlobalsWithin l.run.spent.strings.used h × G.within st' l.run.spent.strings.used → Does (exec P L (instr (memory_at l) i) m) m q (Stands G st' (lent l.code (record { frames = f; globals = h; spent = l.run.spent })) P L)
+  stay-does n e st' i q f h es x w =
+      stayed st' (instr (memory_at l) i) q f h es
+      (subst (λ (z : Memory). Stayed (λ U. Ok (state_of z f (record { tables = U; globals = globals_of z h; effects = effects_of l.run.spent }))) (exec P (limits_of G st) (instr z i) (state_of z l.run.frames (record { tables = s.tables; globals = globals_of z l.run.globals; effects = effects_of l.run.spent }))) q (Unmoved l.run.frames f × (h ≡ l.run.globals)) (G.holds st' z) s.tables) e
+      (x (subst (λ (z : Memory). G.holds st z s.tables) (sym e) s.held))) w

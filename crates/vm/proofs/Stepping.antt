@@ -1,7 +1,6 @@
 -- A step is what the instruction at its place does.
 use Rattle.std.proofs.Common.{◌≡◌, ℕ, ◌≤◌, List, Some, None, Ok, Err, Option, Result, sym, ap, ◌∙◌, subst}
-use Rattle.text.specs.Memory.{Memory}
-use Rattle.store.specs.Tables.{Tables}
+use Rattle.store.specs.declared.Store.{Ghosts}
 use Rattle.machine.specs.declared.ending.Ending.{Ending}
 use Rattle.machine.specs.declared.ending.Ending.TheVariants.{Stuck}
 use Rattle.machine.specs.Limits.{Limits}
@@ -14,8 +13,8 @@ use Rattle.code.specs.declared.table.Extent.{Extent}
 use Rattle.code.specs.declared.table.Record.{Record}
 use Rattle.code.specs.declared.table.Sealed.{Sealed}
 use Rattle.code.specs.Programs.{meant_record, program_of, StandsAt}
-use Rattle.calls.specs.Frames.{state_of}
-use Rattle.vm.specs.Standing.{Lent, CodeWithin, Stands, Does, Steps}
+use Rattle.calls.specs.Frames.{state_at}
+use Rattle.vm.specs.Standing.{Lent, memory_at, CodeWithin, Stands, Does, Steps}
 
 -- the instruction at the place of a state
 abbrev fetch_in : Program → State → Option Instr
@@ -33,15 +32,15 @@ does-steps : (P : Program) (L : Limits) (m : State) (i : Instr) (r : Result (Uni
 does-steps P L m i (Ok _) stands f h = (h.0, step-fetched P L m i f ∙ ap (next_of (world_of m).effects) h.1, h.2)
 does-steps P L m i (Err e) stands f h = (step-fetched P L m i f ∙ ap (next_of (world_of m).effects) h.0, h.1)
 
-module _ (holds : Memory → Tables → Type 0) (within : ℕ → Type 0) (t r : ℕ) (l : Lent) (P : Program) (L : Limits) (m : State) (s : Stands holds within t r l P L m) where
-  fetched : (o : Option Record) → meant_record l.content.memory o ≡ fetch (program_of l.content.memory l.code l.records) l.content.calls.running.function.0 l.content.calls.running.pc.0 → fetch_in P m ≡ meant_record l.content.memory o
-  unfolding state_of
+module _ {S : Type 0} (G : Ghosts S) (st : S) (l : Lent) (P : Program) (L : Limits) (m : State) (s : Stands G st l P L m) where
+  fetched : (o : Option Record) → meant_record (memory_at l) o ≡ fetch (program_of (memory_at l) l.code.sealed.now l.code.records.now) l.run.frames.running.function.0 l.run.frames.running.pc.0 → fetch_in P m ≡ meant_record (memory_at l) o
+  unfolding state_at
   fetched o h = (λ k. fetch_in (s.program k) (s.state k)) ∙ sym h
 
-  pub some-steps : (x : Record) (q : Result (Unit {0}) Ending) (stands : State → Type 0) → meant_record l.content.memory (Some x) ≡ fetch (program_of l.content.memory l.code l.records) l.content.calls.running.function.0 l.content.calls.running.pc.0 → Does (exec P L (instr l.content.memory x.instruction) m) m q stands → Steps (step P L m) m q stands
+  pub some-steps : (x : Record) (q : Result (Unit {0}) Ending) (stands : State → Type 0) → meant_record (memory_at l) (Some x) ≡ fetch (program_of (memory_at l) l.code.sealed.now l.code.records.now) l.run.frames.running.function.0 l.run.frames.running.pc.0 → Does (exec P L (instr (memory_at l) x.instruction) m) m q stands → Steps (step P L m) m q stands
   some-steps x q stands h d = does-steps P L m _ q stands (fetched (Some x) h) d
 
-  pub none-ends : meant_record l.content.memory None ≡ fetch (program_of l.content.memory l.code l.records) l.content.calls.running.function.0 l.content.calls.running.pc.0 → Steps (step P L m) m (Err Stuck) (Stands holds within t r l P L)
+  pub none-ends : meant_record (memory_at l) None ≡ fetch (program_of (memory_at l) l.code.sealed.now l.code.records.now) l.run.frames.running.function.0 l.run.frames.running.pc.0 → Steps (step P L m) m (Err Stuck) (Stands G st l P L)
   none-ends h = (step-nowhere P L m (fetched None h), s)
 
 -- a constant that is fetched is one of the code's

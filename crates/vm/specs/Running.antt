@@ -7,15 +7,13 @@ use Rattle.machine.specs.State as machine
 use Rattle.machine.specs.State.{State, world_of, goes, ends}
 use Rattle.machine.specs.Run.{run, steps_made}
 use Rattle.vm.specs.declared.run.TooSmall.{TooSmall}
-use Rattle.vm.specs.declared.run.Next.{Next}
-use Rattle.vm.specs.declared.run.Next.TheVariants.{Goes, Ends}
 use Rattle.vm.specs.declared.run.Ran.{Ran}
 use Rattle.vm.specs.Standing.{Steps}
 
 -- a step, or a refusal that leaves the state
-abbrev pub Stepped : machine.Next → State → Result Next TooSmall → (State → Type 0) → Type 0
-Stepped x m (Ok Goes) stands = Steps x m (Ok tt) stands
-Stepped x m (Ok (Ends e)) stands = Steps x m (Err e) stands
+abbrev pub Stepped : machine.Next → State → Result (Option Ending) TooSmall → (State → Type 0) → Type 0
+Stepped x m (Ok None) stands = Steps x m (Ok tt) stands
+Stepped x m (Ok (Some e)) stands = Steps x m (Err e) stands
 Stepped x m (Err t) stands = stands m
 
 -- where a run has come to: a state, or an ending with what was made and printed

@@ -1,40 +1,61 @@
 -- When lent memory stands for a state of the machine, and what a step leaves. Assumes nothing.
 use Rattle.std.specs.Prelude.{◌≡◌, ℕ, ◌<◌, ◌≤◌, List, length, Ok, Err, Result, slice_index_or}
 use Rattle.text.specs.Memory.{Memory}
+use Rattle.store.specs.declared.Store.{Ghosts}
 use Rattle.store.specs.Tables.{Tables}
 use Rattle.machine.specs.declared.ending.Ending.{Ending}
-use Rattle.machine.specs.Limits.{Limits}
+use Rattle.machine.specs.Limits.{Limits, most_string_bytes}
 use Rattle.machine.specs.Outcome.{Outcome, ◌>>=◌}
 use Rattle.machine.specs.Instr.{Program}
 use Rattle.machine.specs.State.{State, at, world_of, Next, goes, ends}
 use Rattle.machine.specs.Operands.{value_at}
 use Rattle.machine.specs.Step.{return, halted}
-use Rattle.operands.specs.declared.globals.Globals.{Globals}
 use Rattle.operands.specs.Globals.{globals_of, GlobalsWithin}
 use Rattle.operands.specs.Answering.{constant_end}
 use Rattle.code.specs.declared.table.Record.{Record}
 use Rattle.code.specs.declared.table.Extent.{Extent}
 use Rattle.code.specs.declared.table.Sealed.{Sealed}
 use Rattle.code.specs.Programs.{program_of, records_at, extent_of}
-use Rattle.calls.specs.Frames.{LiveWithin}
-use Rattle.calls.specs.Calling.{Content, world_in, state_in}
+use Rattle.calls.specs.declared.program.Code.{Code}
+use Rattle.calls.specs.declared.frame.Frames.{Frames}
+use Rattle.calls.specs.Applying.{SameSpace}
+use Rattle.calls.specs.Frames.{LiveWithin, Sized, SameFrames}
+use Rattle.calls.specs.Calling.{Content, content, memory_of, world_in, state_in}
+use Rattle.vm.specs.declared.run.Run.{Run}
 
--- what stands in the memory that is lent to a run, but for the store
+-- what stands in the memory that is lent to a run, but for the store: the code, and all that the run holds
 pub record Lent : Type 0 where
-  pub code : Sealed
-  pub records : List Record
-  pub globals : Globals
-  pub content : Content
+  pub code : Code
+  pub run : Run
 
-abbrev pub lent : Sealed → List Record → Globals → Content → Lent
-lent code records globals b = record { code = code; records = records; globals = globals; content = b }
+abbrev pub lent : Code → Run → Lent
+lent c r = record { code = c; run = r }
 
-abbrev pub limits : ℕ → ℕ → Limits
-limits t r = record { tables = t; pairs = r }
+-- what of it a call works on
+abbrev pub content_of : Lent → Content
+content_of l = content l.code.literals l.run.spent l.run.frames
+
+-- the bytes that strings lie in
+abbrev pub memory_at : Lent → Memory
+memory_at l = memory_of (content_of l)
+
+-- there is memory for all that a step can leave
+pub record Roomy (r : Run) : Type 0 where
+  pub sized : Sized r.frames
+  pub strings : most_string_bytes ≤ length r.spent.strings.bytes.now
+
+-- the same lender's memory
+pub record SameMemory (r q : Run) : Type 0 where
+  pub frames : SameFrames r.frames q.frames
+  pub space : SameSpace r.spent q.spent
+
+-- what a store has room for
+abbrev pub limits_of : {S : Type 0} → Ghosts S → S → Limits
+limits_of G s = record { tables = G.tables s; pairs = G.room s }
 
 -- the state, beside the tables that the store holds
 abbrev pub state_with : Lent → Tables → State
-state_with l T = state_in l.content (world_in T (globals_of l.content.memory l.globals) l.content)
+state_with l T = state_in (content_of l) (world_in T (globals_of (memory_at l) l.run.globals) (content_of l))
 
 -- no constant refers to a string made at u or behind it
 abbrev pub RecordsWithin : ℕ → List Record → Type 0
@@ -45,18 +66,18 @@ abbrev pub CodeWithin : ℕ → Sealed → List Record → Type 0
 CodeWithin u s xs =
     (f : ℕ) (d : Extent) → f < length s.functions.items → RecordsWithin u (records_at xs (extent_of s f d))
 
--- lent memory and a store of t tables and r pairs stand for the state m of a run of the program P;
+-- lent memory and a store stand for the state m of a run of the program P;
 -- whatever refers to a string refers to one that was made
-pub record Stands (holds : Memory → Tables → Type 0) (within : ℕ → Type 0) (t r : ℕ) (l : Lent) (P : Program) (L : Limits) (m : State) : Type 0 where
+pub record Stands {S : Type 0} (G : Ghosts S) (s : S) (l : Lent) (P : Program) (L : Limits) (m : State) : Type 0 where
   pub tables : Tables
   pub state : m ≡ state_with l tables
-  pub program : P ≡ program_of l.content.memory l.code l.records
-  pub space : L ≡ limits t r
-  pub held : holds l.content.memory tables
-  pub store-within : within l.content.spent.bytes
-  pub live-within : LiveWithin l.content.spent.bytes l.content.registers l.content.calls.waiting
-  pub globals-within : GlobalsWithin l.content.spent.bytes l.globals
-  pub code-within : CodeWithin l.content.spent.bytes l.code l.records
+  pub program : P ≡ program_of (memory_at l) l.code.sealed.now l.code.records.now
+  pub space : L ≡ limits_of G s
+  pub held : G.holds s (memory_at l) tables
+  pub store-within : G.within s l.run.spent.strings.used
+  pub live-within : LiveWithin l.run.spent.strings.used l.run.frames
+  pub globals-within : GlobalsWithin l.run.spent.strings.used l.run.globals
+  pub code-within : CodeWithin l.run.spent.strings.used l.code.sealed.now l.code.records.now
 
 -- an instruction leads on, or ends the run and leaves the state
 abbrev pub Does : Outcome State → State → Result (Unit {0}) Ending → (State → Type 0) → Type 0
@@ -67,6 +88,12 @@ Does x m (Err e) stands = (x ≡ Err e) × stands m
 abbrev pub Steps : Next → State → Result (Unit {0}) Ending → (State → Type 0) → Type 0
 Steps x m (Ok u) stands = (n : State) × (x ≡ goes n) × stands n
 Steps x m (Err e) stands = (x ≡ ends e (world_of m).effects) × stands m
+
+-- the frames are as they were
+pub record Unmoved (f g : Frames) : Type 0 where
+  pub running : g.running ≡ f.running
+  pub callers : g.callers ≡ f.callers
+  pub registers : g.registers.now ≡ f.registers.now
 
 -- an instruction that stays in its frame leaves tables and globals, or nothing changed
 abbrev pub Stayed : (Tables → Outcome State) → Outcome State → Result (Unit {0}) Ending → Type 0 → (Tables → Type 0) → Tables → Type 0

@@ -1,9 +1,9 @@
 // One instruction, whichever it is.
-ghost use Rattle.std.specs.Prelude.{◌≡◌, ℕ, ◌+◌, ◌*◌, ◌^◌, ◌<◌, ◌≤◌, List, length, Ok, Err};
+ghost use Rattle.std.specs.Prelude.{◌≡◌, ℕ, ◌^◌, ◌<◌, ◌≤◌, Ok, Err};
 ghost use Rattle.text.specs.Memory.{Memory, memory_of};
 ghost use Rattle.store.specs.Val.{meaning};
 ghost use Rattle.store.specs.Tables.{Tables};
-ghost use Rattle.machine.specs.Limits.{Limits, most_frames, registers_per_frame};
+ghost use Rattle.machine.specs.Limits.{Limits};
 ghost use Rattle.machine.specs.Effects.{Effects};
 ghost use Rattle.machine.specs.Instr.{Program, instr};
 ghost use Rattle.machine.specs.State.{World, State};
@@ -12,16 +12,14 @@ ghost use Rattle.operands.specs.Globals.{globals_of, GlobalsWithin};
 ghost use Rattle.operands.specs.Answering.{constant_end};
 ghost use Rattle.instructions.specs.Local.{Stays};
 ghost use Rattle.code.specs.Programs.{program_of};
-ghost use Rattle.calls.specs.declared.frame.Frame.{Frame};
-ghost use Rattle.calls.specs.Frames.{state_of, LiveWithin, Sized, Moved};
-ghost use Rattle.calls.specs.Calling.{content, Roomy};
-ghost use Rattle.vm.specs.Standing.{lent, limits, Stands, Does, Stayed, return_from, halt_from};
+ghost use Rattle.calls.specs.Applying.{memory_in};
+ghost use Rattle.calls.specs.Frames.{state_of, LiveWithin, Sized, SameFrames, Moved};
+ghost use Rattle.vm.specs.Standing.{lent, limits_of, Roomy, Stands, Does, Unmoved, Stayed, SameMemory, return_from, halt_from};
 
-use calls::calling::call;
-use calls::frame::{Calls, Frame, REGISTERS};
-use calls::returning::leave;
-use code::table::{Record, Sealed};
-use effects::spent::Spent;
+use crate::run::Run;
+use calls::frame::{Frames, REGISTERS};
+use calls::passed::Passed;
+use calls::program::Code;
 use instructions::execute::execute;
 use machine::ending::Ending;
 use machine::instruction::{Instruction, Register};
@@ -41,103 +39,72 @@ fn halted(v: Value) -> Ending
     }
 }
 
-fn halt(a: Register, calls: &Calls, registers: &[Option<Value>]) -> Ending
-    requires { registers_per_frame * calls.now.waiting + registers_per_frame ≤ length registers.now }
-    ensures { (m : Memory) (fs : List Frame) (W : World) → halt_from a.0 (state_of m registers.now fs calls.now W) ≡ Err result }
+fn halt(a: Register, frames: &Frames<'_, '_>) -> Ending
+    requires { Sized frames.now }
+    ensures { (m : Memory) (W : World) → halt_from a.0 (state_of m frames.now W) ≡ Err result }
 {
-    let base = REGISTERS * calls.waiting;
-    match value(&registers[base..base + REGISTERS], a) {
+    match value(frames.current(), a) {
         Ok(v) => halted(v),
         Err(ending) => ending,
     }
 }
 
-fn give_back(
-    a: Register,
-    code: &Sealed,
-    records: &[Record],
-    calls: &mut Calls,
-    callers: &mut [Frame],
-    registers: &mut [Option<Value>],
-) -> Result<(), Ending>
-    requires { Sized calls.old.waiting callers.old registers.old }
-    ensures left { (m : Memory) (W : World) → Moved m W (return_from (program_of m code.now records.now) a.0 (state_of m registers.old callers.old calls.old W)) result registers.old callers.old calls.old registers.new callers.new calls.new }
-    ensures within { (u : ℕ) → LiveWithin u registers.old calls.old.waiting → LiveWithin u registers.new calls.new.waiting }
-    ensures few { calls.new.waiting < most_frames }
+fn give_back(a: Register, code: Code<'_, '_, '_>, frames: &mut Frames<'_, '_>) -> Result<(), Ending>
+    requires { Sized frames.old }
+    ensures left { (m : Memory) (W : World) → Moved m W (return_from (program_of m code.entry.sealed.now code.entry.records.now) a.0 (state_of m frames.old W)) result frames.old frames.new }
+    ensures within { (u : ℕ) → LiveWithin u frames.old → LiveWithin u frames.new }
+    ensures lent { SameFrames frames.old frames.new }
 {
-    let base = REGISTERS * calls.waiting;
-    let v = value(&registers[base..base + REGISTERS], a)?;
-    leave(v, code, records, calls, callers, registers)
+    let v = value(frames.current(), a)?;
+    frames.leave(v, code)
 }
 
 // An instruction that stays in the running frame.
 fn stay<S: Store>(
     i: Instruction,
-    calls: &mut Calls,
-    registers: &mut [Option<Value>],
+    frames: &mut Frames<'_, '_>,
     globals: &mut Globals,
     store: &mut S,
     bytes: Bytes<'_, '_, '_>,
 ) -> Result<(), Ending>
-    requires sized { registers_per_frame * calls.old.waiting + registers_per_frame ≤ length registers.old }
-    requires placed { calls.old.running.pc.0 < 2 ^ 32 }
-    ensures stayed { (P : Program) (fs : List Frame) (o : Effects) (T : Tables) → Stays (instr (memory_of bytes.entry) i) → S.Store.holds store.old (memory_of bytes.entry) T → Stayed (λ U. Ok (state_of (memory_of bytes.entry) registers.new fs calls.new (record { tables = U; globals = globals_of (memory_of bytes.entry) globals.new; effects = o }))) (exec P (limits (S.Store.tables store.old) (S.Store.room store.old)) (instr (memory_of bytes.entry) i) (state_of (memory_of bytes.entry) registers.old fs calls.old (record { tables = T; globals = globals_of (memory_of bytes.entry) globals.old; effects = o }))) result ((registers.new ≡ registers.old) × (calls.new ≡ calls.old) × (globals.new ≡ globals.old)) (S.Store.holds store.new (memory_of bytes.entry)) T }
-    ensures within { (u : ℕ) → LiveWithin u registers.old calls.old.waiting → GlobalsWithin u globals.old → S.Store.within store.old u → constant_end i ≤ u → LiveWithin u registers.new calls.old.waiting × GlobalsWithin u globals.new × S.Store.within store.new u }
-    ensures space { (S.Store.tables store.new ≡ S.Store.tables store.old) × (S.Store.room store.new ≡ S.Store.room store.old) }
-    ensures here { calls.new.waiting ≡ calls.old.waiting }
+    requires sized { Sized frames.old }
+    requires placed { frames.old.running.pc.0 < 2 ^ 32 }
+    ensures stayed { (P : Program) (o : Effects) (T : Tables) → Stays (instr (memory_of bytes.entry) i) → S.Store.holds store.old (memory_of bytes.entry) T → Stayed (λ U. Ok (state_of (memory_of bytes.entry) frames.new (record { tables = U; globals = globals_of (memory_of bytes.entry) globals.new; effects = o }))) (exec P (limits_of S.Store store.old) (instr (memory_of bytes.entry) i) (state_of (memory_of bytes.entry) frames.old (record { tables = T; globals = globals_of (memory_of bytes.entry) globals.old; effects = o }))) result (Unmoved frames.old frames.new × (globals.new ≡ globals.old)) (S.Store.holds store.new (memory_of bytes.entry)) T }
+    ensures within { (u : ℕ) → LiveWithin u frames.old → GlobalsWithin u globals.old → S.Store.within store.old u → constant_end i ≤ u → LiveWithin u frames.new × GlobalsWithin u globals.new × S.Store.within store.new u }
+    ensures space { limits_of S.Store store.new ≡ limits_of S.Store store.old }
+    ensures lent { SameFrames frames.old frames.new }
 {
-    let n = calls.waiting;
-    let running = calls.running;
-    let base = REGISTERS * n;
-    let frame = &mut registers[base..base + REGISTERS];
-    let pc = execute(i, running.pc, frame, globals, store, bytes)?;
-    *calls = Calls {
-        running: Frame {
-            function: running.function,
-            pc,
-        },
-        waiting: n,
-    };
+    let base = frames.base();
+    let registers = &mut frames.registers[base..base + REGISTERS];
+    let pc = execute(i, frames.running.pc, registers, globals, store, bytes)?;
+    frames.running.pc = pc;
     Ok(())
 }
 
-pub(crate) fn dispatch<S: Store>(
-    i: Instruction,
-    code: &Sealed,
-    records: &[Record],
-    calls: &mut Calls,
-    callers: &mut [Frame],
-    registers: &mut [Option<Value>],
-    globals: &mut Globals,
-    store: &mut S,
-    fixed: &[u8],
-    texts: &[u8],
-    made: &mut [u8],
-    spent: &mut Spent,
-    out: &mut [u8],
-) -> Result<(), Ending>
-    requires roomy { Roomy (content fixed.now texts.now made.old spent.old out.old registers.old callers.old calls.old) }
-    requires placed { calls.old.running.pc.0 < 2 ^ 32 }
-    ensures done { (P : Program) (L : Limits) (m : State) → Stands (S.Store.holds store.old) (S.Store.within store.old) (S.Store.tables store.old) (S.Store.room store.old) (lent code.now records.now globals.old (content fixed.entry.now texts.now made.old spent.old out.old registers.old callers.old calls.old)) P L m → constant_end i ≤ spent.old.bytes → Does (exec P L (instr (record { fixed = fixed.entry.now; texts = texts.now; made = made.old }) i) m) m result (Stands (S.Store.holds store.new) (S.Store.within store.new) (S.Store.tables store.new) (S.Store.room store.new) (lent code.now records.now globals.new (content fixed.entry.now texts.now made.new spent.new out.new registers.new callers.new calls.new)) P L) }
-    ensures few { calls.new.waiting < most_frames }
-    ensures shown { spent.new.printed ≤ length out.new }
-{
-    match i {
-        Instruction::Call(a, first, last) => {
-            store.lent_more();
-            call(
-                a, first, last, calls, callers, registers, fixed, texts, made, spent, out,
-            )
+impl Run<'_, '_, '_, '_> {
+    pub(crate) fn dispatch<S: Store>(
+        &mut self,
+        i: Instruction,
+        code: Code<'_, '_, '_>,
+        store: &mut S,
+    ) -> Result<(), Ending>
+        requires roomy { Roomy self.old }
+        requires placed { self.old.frames.running.pc.0 < 2 ^ 32 }
+        ensures done { (P : Program) (L : Limits) (m : State) → Stands S.Store store.old (lent code.entry self.old) P L m → constant_end i ≤ self.old.spent.strings.used → Does (exec P L (instr (memory_in code.entry.literals self.old.spent) i) m) m result (Stands S.Store store.new (lent code.entry self.new) P L) }
+        ensures lent { SameMemory self.old self.new }
+    {
+        match i {
+            Instruction::Call(a, first, last) => {
+                store.lent_more();
+                let passed = Passed { first, last };
+                self.frames.call(a, passed, code.literals, &mut self.spent)
+            }
+            Instruction::Ret(a) => give_back(a, code, &mut self.frames),
+            Instruction::Halt(a) => Err(halt(a, &self.frames)),
+            _ => {
+                let bytes = code.literals.with(&self.spent.strings);
+                stay(i, &mut self.frames, &mut self.globals, store, bytes)
+            }
         }
-        Instruction::Ret(a) => give_back(a, code, records, calls, callers, registers),
-        Instruction::Halt(a) => Err(halt(a, calls, registers)),
-        _ => stay(
-            i,
-            calls,
-            registers,
-            globals,
-            store,
-            Bytes { fixed, texts, made },
-        ),
     }
 }

@@ -1,23 +1,18 @@
 // Runs in measured steps, over any store and whatever memory is lent.
-ghost use Rattle.std.specs.Prelude.{◌≡◌, ℕ, ◌<◌, ◌≤◌, List, length, MatchBool, MatchResult, OnOk};
-ghost use Rattle.machine.specs.Limits.{Limits, most_frames, registers_per_frame};
+ghost use Rattle.std.specs.Prelude.{◌≡◌, ℕ, ◌<◌, ◌≤◌, [], length, MatchBool, MatchResult, OnOk};
+ghost use Rattle.machine.specs.Limits.{Limits, registers_per_frame};
 ghost use Rattle.machine.specs.Instr.{Program};
 ghost use Rattle.machine.specs.State.{State, initial};
 ghost use Rattle.machine.specs.Step.{step};
-ghost use Rattle.calls.specs.Calling.{content, Roomy};
-ghost use Rattle.code.specs.declared.table.Record.{Record};
-ghost use Rattle.code.specs.declared.table.Sealed.{Sealed};
+ghost use Rattle.stack.specs.Held.{held};
+ghost use Rattle.calls.specs.Applying.{memory_in};
 ghost use Rattle.code.specs.Programs.{program_of};
-ghost use Rattle.calls.specs.declared.frame.Frame.{Frame};
-ghost use Rattle.vm.specs.Standing.{lent, limits, CodeWithin, Stands, Steps};
 ghost use Rattle.vm.specs.Running.{Stepped, RanBy, RanTo};
 
-use crate::dispatch::dispatch;
-use calls::beginning::first_frame;
-use calls::frame::{Calls, FRAMES, Frame, REGISTERS};
-use code::table::{Record, Sealed};
-use effects::made::STRING_BYTES;
+use calls::frame::{FRAMES, Frame, Frames, REGISTERS};
+use calls::program::Code;
 use effects::spent::Spent;
+use effects::strings::STRING_BYTES;
 use machine::ending::Ending;
 use operands::globals::Globals;
 use store::Store;
@@ -27,13 +22,6 @@ use store::value::Value;
 #[derive(Clone, Copy)]
 pub struct TooSmall;
 
-// A step leads on, or ends the run.
-#[derive(Clone, Copy)]
-pub enum Next {
-    Goes,
-    Ends(Ending),
-}
-
 // How many steps were made, and how the run ended, if it did.
 #[derive(Clone, Copy)]
 pub struct Ran {
@@ -41,180 +29,127 @@ pub struct Ran {
     pub ending: Option<Ending>,
 }
 
-// A run begins: one frame, no register set, no global, no table, nothing made or printed.
-pub fn begin<S: Store>(
-    calls: &mut Calls,
-    registers: &mut [Option<Value>],
-    globals: &mut Globals,
-    spent: &mut Spent,
-    store: &mut S,
-) -> Result<(), TooSmall>
-    ensures begun { OnOk result ((code : Sealed) (records : List Record) (fixed texts made out : List ℕ) (callers : List Frame) → CodeWithin 0 code records → Stands (S.Store.holds store.new) (S.Store.within store.new) (S.Store.tables store.new) (S.Store.room store.new) (lent code records globals.new (content fixed texts made spent.new out registers.new callers calls.new)) (program_of (record { fixed = fixed; texts = texts; made = made }) code records) (limits (S.Store.tables store.old) (S.Store.room store.old)) (initial (length out))) }
-    ensures refused { MatchResult result (λ _. registers_per_frame ≤ length registers.old) (λ _. (length registers.old < registers_per_frame) × (calls.new ≡ calls.old) × (registers.new ≡ registers.old) × (globals.new ≡ globals.old) × (spent.new ≡ spent.old) × (store.new ≡ store.old)) }
-{
-    if registers.len() < REGISTERS {
-        return Err(TooSmall);
-    }
-    *calls = first_frame(registers);
-    *globals = Globals::new();
-    *spent = Spent::nothing();
-    store.clear();
-    Ok(())
+// All that a run holds but for its store, in lent memory of any size.
+#[derive(Drop)]
+pub struct Run<'c, 'r, 'm, 'o> {
+    pub frames: Frames<'c, 'r>,
+    pub globals: Globals,
+    pub spent: Spent<'m, 'o>,
 }
 
-// Whether there is memory for all that a step can leave.
-fn fits(
-    calls: &Calls,
-    callers: &[Frame],
-    registers: &[Option<Value>],
-    made: &[u8],
-    spent: Spent,
-    out: &[u8],
-) -> bool
-    ensures { (fixed texts : List ℕ) → MatchBool result (Roomy (content fixed texts made.now spent out.now registers.now callers.now calls.now)) (Roomy (content fixed texts made.now spent out.now registers.now callers.now calls.now) → ⊥) }
-{
-    if calls.waiting >= FRAMES {
-        return false;
-    }
-    if callers.len() < FRAMES - 1 {
-        return false;
-    }
-    if registers.len() < REGISTERS * FRAMES {
-        return false;
-    }
-    if made.len() < STRING_BYTES {
-        return false;
-    }
-    spent.printed() <= out.len()
-}
+impl<'c, 'r, 'm, 'o> Run<'c, 'r, 'm, 'o> {
+    ghost use Rattle.vm.specs.Standing.{lent, limits_of, CodeWithin, Roomy, SameMemory, Stands, Steps};
 
-fn advance<S: Store>(
-    code: &Sealed,
-    records: &[Record],
-    calls: &mut Calls,
-    callers: &mut [Frame],
-    registers: &mut [Option<Value>],
-    globals: &mut Globals,
-    store: &mut S,
-    fixed: &[u8],
-    texts: &[u8],
-    made: &mut [u8],
-    spent: &mut Spent,
-    out: &mut [u8],
-) -> Result<(), Ending>
-    requires { Roomy (content fixed.now texts.now made.old spent.old out.old registers.old callers.old calls.old) }
-    ensures stepped { (P : Program) (L : Limits) (m : State) → Stands (S.Store.holds store.old) (S.Store.within store.old) (S.Store.tables store.old) (S.Store.room store.old) (lent code.now records.now globals.old (content fixed.now texts.now made.old spent.old out.old registers.old callers.old calls.old)) P L m → Steps (step P L m) m result (Stands (S.Store.holds store.new) (S.Store.within store.new) (S.Store.tables store.new) (S.Store.room store.new) (lent code.now records.now globals.new (content fixed.now texts.now made.new spent.new out.new registers.new callers.new calls.new)) P L) }
-    ensures few { calls.new.waiting < most_frames }
-    ensures shown { spent.new.printed ≤ length out.new }
-{
-    let running = calls.running;
-    match code.fetch(records, running.function, running.pc) {
-        Some(record) => dispatch(
-            record.instruction,
-            code,
-            records,
-            calls,
-            callers,
-            registers,
-            globals,
-            store,
-            fixed,
-            texts,
-            made,
-            spent,
-            out,
-        ),
-        None => Err(Ending::Stuck),
-    }
-}
-
-// One step. What is lent is looked at first: where it is too small nothing is done.
-pub fn step<S: Store>(
-    code: &Sealed,
-    records: &[Record],
-    calls: &mut Calls,
-    callers: &mut [Frame],
-    registers: &mut [Option<Value>],
-    globals: &mut Globals,
-    store: &mut S,
-    fixed: &[u8],
-    texts: &[u8],
-    made: &mut [u8],
-    spent: &mut Spent,
-    out: &mut [u8],
-) -> Result<Next, TooSmall>
-    ensures refused { MatchResult result (λ _. Roomy (content fixed.now texts.now made.old spent.old out.old registers.old callers.old calls.old)) (λ _. (Roomy (content fixed.now texts.now made.old spent.old out.old registers.old callers.old calls.old) → ⊥) × (calls.new ≡ calls.old) × (callers.new ≡ callers.old) × (registers.new ≡ registers.old) × (globals.new ≡ globals.old) × (store.new ≡ store.old) × (made.new ≡ made.old) × (spent.new ≡ spent.old) × (out.new ≡ out.old)) }
-    ensures stepped { (P : Program) (L : Limits) (m : State) → Stands (S.Store.holds store.old) (S.Store.within store.old) (S.Store.tables store.old) (S.Store.room store.old) (lent code.now records.now globals.old (content fixed.now texts.now made.old spent.old out.old registers.old callers.old calls.old)) P L m → Stepped (step P L m) m result (Stands (S.Store.holds store.new) (S.Store.within store.new) (S.Store.tables store.new) (S.Store.room store.new) (lent code.now records.now globals.new (content fixed.now texts.now made.new spent.new out.new registers.new callers.new calls.new)) P L) }
-{
-    if !fits(calls, callers, registers, made, *spent, out) {
-        return Err(TooSmall);
-    }
-    match advance(
-        code, records, calls, callers, registers, globals, store, fixed, texts, made, spent, out,
-    ) {
-        Ok(()) => Ok(Next::Goes),
-        Err(ending) => Ok(Next::Ends(ending)),
-    }
-}
-
-fn advance_by<S: Store>(
-    n: u32,
-    code: &Sealed,
-    records: &[Record],
-    calls: &mut Calls,
-    callers: &mut [Frame],
-    registers: &mut [Option<Value>],
-    globals: &mut Globals,
-    store: &mut S,
-    fixed: &[u8],
-    texts: &[u8],
-    made: &mut [u8],
-    spent: &mut Spent,
-    out: &mut [u8],
-) -> Ran
-    requires { Roomy (content fixed.now texts.now made.old spent.old out.old registers.old callers.old calls.old) }
-    ensures { (P : Program) (L : Limits) (m : State) → Stands (S.Store.holds store.old) (S.Store.within store.old) (S.Store.tables store.old) (S.Store.room store.old) (lent code.now records.now globals.old (content fixed.now texts.now made.old spent.old out.old registers.old callers.old calls.old)) P L m → RanBy P L n m result (Stands (S.Store.holds store.new) (S.Store.within store.new) (S.Store.tables store.new) (S.Store.room store.new) (lent code.now records.now globals.new (content fixed.now texts.now made.new spent.new out.new registers.new callers.new calls.new)) P L) }
-{
-    for i in 0..n {
-        if let Err(ending) = advance(
-            code, records, calls, callers, registers, globals, store, fixed, texts, made, spent,
-            out,
-        ) {
-            return Ran {
-                steps: i + 1,
-                ending: Some(ending),
-            };
+    // Memory that nothing was done in.
+    pub fn new(
+        callers: &'c mut [Frame],
+        registers: &'r mut [Option<Value>],
+        strings: &'m mut [u8],
+        output: &'o mut [u8],
+    ) -> Run<'c, 'r, 'm, 'o>
+        ensures none { held result.frames.callers ≡ [] }
+        ensures nothing { (result.spent.strings.count ≡ 0) × (result.spent.strings.used ≡ 0) × (result.spent.output.printed ≡ 0) }
+        ensures registers { result.frames.registers ≡ registers.entry }
+        ensures strings { result.spent.strings.bytes ≡ strings.entry }
+        ensures output { result.spent.output.bytes ≡ output.entry }
+    {
+        Run {
+            frames: Frames::new(callers, registers),
+            globals: Globals::new(),
+            spent: Spent::nothing(strings, output),
         }
     }
-    Ran {
-        steps: n,
-        ending: None,
-    }
-}
 
-// At most n steps: as many, or fewer where the run ends; the step that ends it is counted.
-pub fn steps<S: Store>(
-    n: u32,
-    code: &Sealed,
-    records: &[Record],
-    calls: &mut Calls,
-    callers: &mut [Frame],
-    registers: &mut [Option<Value>],
-    globals: &mut Globals,
-    store: &mut S,
-    fixed: &[u8],
-    texts: &[u8],
-    made: &mut [u8],
-    spent: &mut Spent,
-    out: &mut [u8],
-) -> Result<Ran, TooSmall>
-    ensures refused { MatchResult result (λ _. Roomy (content fixed.now texts.now made.old spent.old out.old registers.old callers.old calls.old)) (λ _. (Roomy (content fixed.now texts.now made.old spent.old out.old registers.old callers.old calls.old) → ⊥) × (calls.new ≡ calls.old) × (callers.new ≡ callers.old) × (registers.new ≡ registers.old) × (globals.new ≡ globals.old) × (store.new ≡ store.old) × (made.new ≡ made.old) × (spent.new ≡ spent.old) × (out.new ≡ out.old)) }
-    ensures ran { (P : Program) (L : Limits) (m : State) → Stands (S.Store.holds store.old) (S.Store.within store.old) (S.Store.tables store.old) (S.Store.room store.old) (lent code.now records.now globals.old (content fixed.now texts.now made.old spent.old out.old registers.old callers.old calls.old)) P L m → RanTo P L n m result (Stands (S.Store.holds store.new) (S.Store.within store.new) (S.Store.tables store.new) (S.Store.room store.new) (lent code.now records.now globals.new (content fixed.now texts.now made.new spent.new out.new registers.new callers.new calls.new)) P L) }
-{
-    if !fits(calls, callers, registers, made, *spent, out) {
-        return Err(TooSmall);
+    // A run begins: one frame, no register set, no global, no table, nothing made or printed.
+    pub fn begin<S: Store>(&mut self, store: &mut S) -> Result<(), TooSmall>
+        ensures begun { OnOk result ((code : Code) → CodeWithin 0 code.sealed.now code.records.now → Stands S.Store store.new (lent code self.new) (program_of (memory_in code.literals self.new.spent) code.sealed.now code.records.now) (limits_of S.Store store.old) (initial (length self.new.spent.output.bytes.now))) }
+        ensures refused { MatchResult result (λ _. registers_per_frame ≤ length self.old.frames.registers.now) (λ _. (length self.old.frames.registers.now < registers_per_frame) × (self.new ≡ self.old) × (store.new ≡ store.old)) }
+        ensures lent { SameMemory self.old self.new }
+    {
+        if self.frames.registers.len() < REGISTERS {
+            return Err(TooSmall);
+        }
+        self.frames.begin();
+        self.globals = Globals::new();
+        self.spent.strings.clear();
+        self.spent.output.clear();
+        store.clear();
+        Ok(())
     }
-    Ok(advance_by(
-        n, code, records, calls, callers, registers, globals, store, fixed, texts, made, spent, out,
-    ))
+
+    // Whether there is memory for all that a step can leave.
+    fn fits(&self) -> bool
+        ensures { MatchBool result (Roomy self.now) (Roomy self.now → ⊥) }
+    {
+        self.frames.callers.room() >= FRAMES - 1
+            && self.frames.registers.len() >= REGISTERS * FRAMES
+            && self.spent.strings.bytes.len() >= STRING_BYTES
+    }
+
+    fn advance<S: Store>(&mut self, code: Code<'_, '_, '_>, store: &mut S) -> Result<(), Ending>
+        requires { Roomy self.old }
+        ensures stepped { (P : Program) (L : Limits) (m : State) → Stands S.Store store.old (lent code.entry self.old) P L m → Steps (step P L m) m result (Stands S.Store store.new (lent code.entry self.new) P L) }
+        ensures lent { SameMemory self.old self.new }
+    {
+        let running = self.frames.running;
+        match code
+            .sealed
+            .fetch(code.records, running.function, running.pc)
+        {
+            Some(record) => self.dispatch(record.instruction, code, store),
+            None => Err(Ending::Stuck),
+        }
+    }
+
+    // One step, and how it ended the run, if it did. What is lent is looked at first: where it is too small nothing is done.
+    pub fn step<S: Store>(
+        &mut self,
+        code: Code<'_, '_, '_>,
+        store: &mut S,
+    ) -> Result<Option<Ending>, TooSmall>
+        ensures refused { MatchResult result (λ _. Roomy self.old) (λ _. (Roomy self.old → ⊥) × (self.new ≡ self.old) × (store.new ≡ store.old)) }
+        ensures stepped { (P : Program) (L : Limits) (m : State) → Stands S.Store store.old (lent code.entry self.old) P L m → Stepped (step P L m) m result (Stands S.Store store.new (lent code.entry self.new) P L) }
+        ensures lent { SameMemory self.old self.new }
+    {
+        if !self.fits() {
+            return Err(TooSmall);
+        }
+        Ok(self.advance(code, store).err())
+    }
+
+    fn advance_by<S: Store>(&mut self, n: u32, code: Code<'_, '_, '_>, store: &mut S) -> Ran
+        requires { Roomy self.old }
+        ensures ran { (P : Program) (L : Limits) (m : State) → Stands S.Store store.old (lent code.entry self.old) P L m → RanBy P L n m result (Stands S.Store store.new (lent code.entry self.new) P L) }
+        ensures lent { SameMemory self.old self.new }
+    {
+        for i in 0..n {
+            if let Err(ending) = self.advance(code, store) {
+                return Ran {
+                    steps: i + 1,
+                    ending: Some(ending),
+                };
+            }
+        }
+        Ran {
+            steps: n,
+            ending: None,
+        }
+    }
+
+    // At most n steps: as many, or fewer where the run ends; the step that ends it is counted.
+    pub fn steps<S: Store>(
+        &mut self,
+        n: u32,
+        code: Code<'_, '_, '_>,
+        store: &mut S,
+    ) -> Result<Ran, TooSmall>
+        ensures refused { MatchResult result (λ _. Roomy self.old) (λ _. (Roomy self.old → ⊥) × (self.new ≡ self.old) × (store.new ≡ store.old)) }
+        ensures ran { (P : Program) (L : Limits) (m : State) → Stands S.Store store.old (lent code.entry self.old) P L m → RanTo P L n m result (Stands S.Store store.new (lent code.entry self.new) P L) }
+        ensures lent { SameMemory self.old self.new }
+    {
+        if !self.fits() {
+            return Err(TooSmall);
+        }
+        Ok(self.advance_by(n, code, store))
+    }
 }

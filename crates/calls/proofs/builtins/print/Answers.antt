@@ -1,45 +1,32 @@
-use Rattle.std.proofs.Common.{refl}
+use Rattle.std.proofs.Common.{Ok, Err, refl, subst}
 use Rattle.std.proofs.lemmas.Result.{err_from_is_err_and}
-use Rattle.text.specs.Memory.{memory_of}
+use Rattle.text.specs.Memory.{Memory}
+use Rattle.store.specs.Val.{meaning}
+use Rattle.machine.specs.Builtin.{shown}
 use Rattle.effects.specs.Spending.{effects_of}
 use Rattle.operands.specs.Slots.{registers_of}
+use Rattle.calls.specs.Applying.{memory_in, Shows}
 use Rattle.calls.proofs.Applied.{print-without, print-refused, print-applied}
 use Rattle.calls.proofs.builtins.print.Goals as goal
 
-pub returns-in_err-v : goal.returns-in_err-v
-returns-in_err-v c =
+pub returns-in_err-v-clause-applied : goal.returns-in_err-v-clause-applied
+returns-in_err-v-clause-applied c =
     let p = err_from_is_err_and c.from_residual.result c.from_residual.ensures.1 in
     let a = c.args in
-    let m = memory_of a.bytes in
-    rw (p.1, p.2)
-    (record {
-      applied = λ h. (print-without (registers_of m a.registers.now) a.first.0 a.last.0 (effects_of a.spent.now a.out.now) _ (c.in_err-v.ensures.held m), refl, refl, refl);
-      there = tt;
-      within = λ h. h;
-    })
+    let m = memory_in a.literals a.spent.now in
+    rw (p.1, p.2) (print-without (registers_of m a.registers.now) a.passed.first.0 a.passed.last.0 (effects_of a.spent.now) _ (c.in_err-v.ensures.held m), refl)
 
-pub returns-in_err-show : goal.returns-in_err-show
-returns-in_err-show c =
+pub returns-in_err-show-clause-applied : goal.returns-in_err-show-clause-applied
+returns-in_err-show-clause-applied c =
     let p = err_from_is_err_and c.from_residual-in_err-show.result c.from_residual-in_err-show.ensures.1 in
     let a = c.args in
-    let m = memory_of a.bytes in
-    rw (p.1, p.2)
-    (record {
-      applied = λ h.
-          let s = c.in_err-show.ensures.shown h in
-          (print-refused (registers_of m a.registers.now) a.first.0 a.last.0 (effects_of a.spent.now a.out.now) _ (c.in_ok-v.ensures.held m) _ s.0, s.1, refl, s.2);
-      there = tt;
-      within = c.in_err-show.ensures.within;
-    })
+    let m = memory_in a.literals a.spent.now in
+    let s = subst (λ (z : Memory). Shows (shown (meaning z c.in_ok-v.v)) a.spent.now.output (Err c.in_err-show.field-0.0) c.show.new.output) c.with.ensures c.in_err-show.ensures.shown in
+    rw (p.1, p.2) (print-refused (registers_of m a.registers.now) a.passed.first.0 a.passed.last.0 (effects_of a.spent.now) _ (c.in_ok-v.ensures.held m) _ (s.0 a.spent.now.strings), λ i. record { strings = a.spent.now.strings; output = s.1 i })
 
-pub returns : goal.returns
-returns c =
+pub returns-clause-applied : goal.returns-clause-applied
+returns-clause-applied c =
     let a = c.args in
-    let m = memory_of a.bytes in
-    let v = c.in_ok-v.ensures in
-    let s = c.in_ok-show.ensures in
-    record {
-      applied = λ h. print-applied m (registers_of m a.registers.now) a.first.0 a.last.0 _ a.spent.now _ a.out.now _ (v.held m) (s.shown h) (s.within h);
-      there = v.there;
-      within = s.within;
-    }
+    let m = memory_in a.literals a.spent.now in
+    let s = subst (λ (z : Memory). Shows (shown (meaning z c.in_ok-v.v)) a.spent.now.output (Ok tt) c.show.new.output) c.with.ensures c.in_ok-show.ensures.shown in
+    print-applied a.literals (registers_of m a.registers.now) a.passed.first.0 a.passed.last.0 _ a.spent.now c.show.new.output (c.in_ok-v.ensures.held m) s
