@@ -4,6 +4,7 @@
 ghost use Rattle.std.specs.Prelude.{◌≡◌, ℕ, ◌<◌, ◌≤◌, min, [], length, take, IfSome, if◌then◌else◌, None, Decides, nat_eq};
 ghost use Rattle.text.specs.Memory.{Memory, memory_of};
 ghost use Rattle.text.specs.First.{first_place};
+ghost use Rattle.store.specs.Limits.{most_pairs};
 ghost use Rattle.store.specs.Val.{meaning, end_of};
 ghost use Rattle.store.specs.Tables.{Tables, write};
 ghost use Rattle.store.specs.Filed.{place_of, same_place};
@@ -13,6 +14,7 @@ ghost use Rattle.buckets.specs.Stored.{InPlace, Holds, Inside};
 use crate::number::bucket_of;
 use crate::walk::{begins, walk};
 use store::capacity::Capacity;
+use store::count::TableCount;
 use store::key::Key;
 use store::value::{Location, Value};
 use store::{NoTable, Refusal, Store};
@@ -22,7 +24,7 @@ mod number;
 mod walk;
 
 // A pair, the number of its bucket, and the place of the next pair of that bucket.
-#[derive(Clone, Copy)]
+#[derive(Clone, Copy, Default, Debug)]
 pub struct Chained {
     key: Key,
     value: Value,
@@ -31,24 +33,11 @@ pub struct Chained {
 }
 
 // The places of a bucket's first and last pair.
-#[derive(Clone, Copy)]
+#[derive(Clone, Copy, Default, Debug)]
 pub struct Chain {
     first: usize,
     last: usize,
 }
-
-// Memory to lend: what it holds before does not matter.
-pub const UNUSED: Chained = Chained {
-    key: Key {
-        location: Location(0),
-        value: Value::Int(0),
-    },
-    value: Value::Int(0),
-    bucket: 0,
-    next: 0,
-};
-
-pub const UNLINKED: Chain = Chain { first: 0, last: 0 };
 
 #[derive(Drop)]
 pub struct BucketStore<'e, 'c> {
@@ -56,12 +45,10 @@ pub struct BucketStore<'e, 'c> {
     chains: &'c mut [Chain],
     len: usize,
     room: usize,
-    count: u16,
-    most: u16,
+    tables: TableCount,
     ghost entered: { room ≤ length entries.now },
     ghost filled: { len ≤ room },
-    ghost counted: { count ≤ most },
-    ghost limits: { (room ≤ 16384) × (most ≤ 4096) },
+    ghost limit: { room ≤ most_pairs },
     ghost numbered: { 0 < room → 0 < length chains.now },
     ghost firsts: { Firsts (bucket_at entries.now) (first_at chains.now) len },
     ghost lasts: { Lasts (bucket_at entries.now) (last_at chains.now) len },
@@ -76,9 +63,9 @@ impl<'e, 'c> BucketStore<'e, 'c> {
         chains: &'c mut [Chain],
         capacity: Capacity,
     ) -> BucketStore<'e, 'c>
-        ensures holds { (m : Memory) → Holds result.entries.now (length result.chains.now) result.len result.count m [] }
+        ensures holds { (m : Memory) → Holds result.entries.now (length result.chains.now) result.len result.tables.made m [] }
         ensures within { (u : ℕ) → Inside result.entries.now result.len u }
-        ensures tables { result.most ≡ capacity.tables }
+        ensures tables { result.tables.most ≡ capacity.tables }
         ensures room { result.room ≡ (if nat_eq (length chains.old) 0 then 0 else min capacity.pairs (length entries.old)) }
     {
         let room = if chains.len() == 0 {
@@ -91,8 +78,7 @@ impl<'e, 'c> BucketStore<'e, 'c> {
             chains,
             len: 0,
             room,
-            count: 0,
-            most: capacity.tables(),
+            tables: TableCount::new(capacity),
         }
     }
 
@@ -111,9 +97,9 @@ impl<'e, 'c> BucketStore<'e, 'c> {
     // A new key goes behind the others, and to the end of its chain.
     fn append(&mut self, key: Key, value: Value, bytes: Bytes<'_, '_, '_>)
         requires { self.old.len < self.old.room }
-        ensures holds { (T : Tables) → Holds self.old.entries.now (length self.old.chains.now) self.old.len self.old.count (memory_of bytes.entry) T → None ≡ first_place (λ e. same_place (place_of (memory_of bytes.entry) e.key) (place_of (memory_of bytes.entry) key)) (take self.old.len self.old.entries.now) → key.location.0 < self.old.count → Holds self.new.entries.now (length self.new.chains.now) self.new.len self.new.count (memory_of bytes.entry) (write T key.location.0 (meaning (memory_of bytes.entry) key.value) (meaning (memory_of bytes.entry) value)) }
+        ensures holds { (T : Tables) → Holds self.old.entries.now (length self.old.chains.now) self.old.len self.old.tables.made (memory_of bytes.entry) T → None ≡ first_place (λ e. same_place (place_of (memory_of bytes.entry) e.key) (place_of (memory_of bytes.entry) key)) (take self.old.len self.old.entries.now) → key.location.0 < self.old.tables.made → Holds self.new.entries.now (length self.new.chains.now) self.new.len self.new.tables.made (memory_of bytes.entry) (write T key.location.0 (meaning (memory_of bytes.entry) key.value) (meaning (memory_of bytes.entry) value)) }
         ensures within { (u : ℕ) → Inside self.old.entries.now self.old.len u → end_of key.value ≤ u → end_of value ≤ u → Inside self.new.entries.now self.new.len u }
-        ensures tables { self.new.most ≡ self.old.most }
+        ensures tables { self.new.tables.most ≡ self.old.tables.most }
         ensures room { self.new.room ≡ self.old.room }
     {
         let end = self.len;
@@ -155,11 +141,11 @@ impl<'e, 'c> BucketStore<'e, 'c> {
 }
 
 impl Store for BucketStore<'_, '_> {
-    ghost holds = { λ s. Holds s.entries.now (length s.chains.now) s.len s.count };
+    ghost holds = { λ s. Holds s.entries.now (length s.chains.now) s.len s.tables.made };
 
     ghost within = { λ s. Inside s.entries.now s.len };
 
-    ghost tables = { λ s. s.most };
+    ghost tables = { λ s. s.tables.most };
 
     ghost room = { λ s. s.room };
 
@@ -168,53 +154,23 @@ impl Store for BucketStore<'_, '_> {
     // what the chains then say does not matter: they count only as far as the entries do
     fn clear(&mut self) {
         self.len = 0;
-        self.count = 0;
+        self.tables.clear();
     }
 
     fn make(&mut self) -> Option<Location> {
-        if self.count >= self.most {
-            return None;
-        }
-        let made = self.count;
-        self.count += 1;
-        Some(Location(made))
+        self.tables.make()
     }
 
-    fn read(
-        &self,
-        table: Location,
-        key: Value,
-        bytes: Bytes<'_, '_, '_>,
-    ) -> Result<Option<Value>, NoTable> {
-        if table.0 >= self.count {
-            return Err(NoTable);
-        }
-        match self.place_of(
-            Key {
-                location: table,
-                value: key,
-            },
-            bytes,
-        ) {
+    fn read(&self, key: Key, bytes: Bytes<'_, '_, '_>) -> Result<Option<Value>, NoTable> {
+        self.tables.check(key.location)?;
+        match self.place_of(key, bytes) {
             Some(i) => Ok(Some(self.entries[i].value)),
             None => Ok(None),
         }
     }
 
-    fn write(
-        &mut self,
-        table: Location,
-        key: Value,
-        value: Value,
-        bytes: Bytes<'_, '_, '_>,
-    ) -> Result<(), Refusal> {
-        if table.0 >= self.count {
-            return Err(Refusal::NoTable);
-        }
-        let key = Key {
-            location: table,
-            value: key,
-        };
+    fn write(&mut self, key: Key, value: Value, bytes: Bytes<'_, '_, '_>) -> Result<(), Refusal> {
+        self.tables.check(key.location)?;
         match self.place_of(key, bytes) {
             Some(i) => {
                 self.entries[i].value = value;

@@ -1,23 +1,20 @@
--- A store as one list of keys and one of values, searched from its start. Assumes nothing.
-use Rattle.std.specs.Prelude.{ℕ, ◌≤◌, List, [], ◌∷◌, take}
+-- A store as one list of pairs, searched from its start. Assumes nothing.
+use Rattle.std.specs.Prelude.{ℕ, ◌≤◌, List, map}
 use Rattle.std.specs.List.{AllByRecursion}
 use Rattle.text.specs.Memory.{Memory}
-use Rattle.store.specs.declared.key.Key.{Key}
-use Rattle.store.specs.declared.value.Value.{Value}
 use Rattle.store.specs.Val.{Val, meaning, end_of}
 use Rattle.store.specs.Tables.{Tables}
 use Rattle.store.specs.Filed.{place_of, Files}
+use Rattle.list.specs.declared.Pair.{Pair}
 
--- each key with the value beside it
-unfoldable pub filed : Memory → List Key → List Value → List ((ℕ × Val) × Val)
-filed m [] vs = []
-filed m (k ∷ ks) [] = []
-filed m (k ∷ ks) (v ∷ vs) = (place_of m k, meaning m v) ∷ filed m ks vs
+-- what a pair means: its place and its value
+abbrev pub filed : Memory → Pair → (ℕ × Val) × Val
+filed m p = (place_of m p.key, meaning m p.value)
 
--- lent the memory m, the first len pairs are the tables T, of which there are n
-abbrev pub Holds : List Key → List Value → ℕ → ℕ → Memory → Tables → Type 0
-Holds ks vs len n m T = Files (filed m (take len ks) (take len vs)) n T
+-- lent the memory m, the pairs are the tables T, of which there are n
+abbrev pub Holds : List Pair → ℕ → Memory → Tables → Type 0
+Holds ps n m T = Files (map (filed m) ps) n T
 
--- the first len keys and values end by u among the strings made
-abbrev pub Inside : List Key → List Value → ℕ → ℕ → Type 0
-Inside ks vs len u = AllByRecursion (λ (k : Key). end_of k.value ≤ u) (take len ks) × AllByRecursion (λ (v : Value). end_of v ≤ u) (take len vs)
+-- the keys and values end by u among the strings made
+abbrev pub Inside : List Pair → ℕ → Type 0
+Inside ps u = AllByRecursion (λ (p : Pair). (end_of p.key.value ≤ u) × (end_of p.value ≤ u)) ps

@@ -1,151 +1,118 @@
 // The list store: all pairs in the order in which their keys came, searched from the start.
 #![tactic(auto)]
 
-ghost use Rattle.std.specs.Prelude.{◌≡◌, ℕ, ◌<◌, ◌≤◌, min, [], length, take, IfSome};
+ghost use Rattle.std.specs.Prelude.{◌≡◌, ℕ, ◌<◌, ◌≤◌, min, [], length, IfSome};
 ghost use Rattle.text.specs.Memory.{Memory, memory_of};
 ghost use Rattle.text.specs.First.{first_place};
+ghost use Rattle.stack.specs.Held.{held, room};
+ghost use Rattle.store.specs.Limits.{most_pairs};
+ghost use Rattle.store.specs.Val.{Val};
 ghost use Rattle.store.specs.Filed.{place_of, same_place};
+ghost use Rattle.store.specs.ValuesLemmas.{decides-place};
 ghost use Rattle.list.specs.Listed.{Holds, Inside};
 
+use stack::Stack;
 use store::capacity::Capacity;
+use store::count::TableCount;
 use store::key::Key;
 use store::value::{Location, Value};
 use store::{NoTable, Refusal, Store};
-use text::search::first_equal;
+use text::search::{Entry, first_equal};
 use text::span::Bytes;
 
+#[derive(Clone, Copy, Default, Debug)]
+pub struct Pair {
+    key: Key,
+    value: Value,
+}
+
+// Pairs are told apart by their keys.
+impl Entry for Pair {
+    ghost Meaning = { ℕ × Val };
+
+    ghost means = { λ m p. place_of m p.key };
+
+    ghost equal = { same_place };
+
+    ghost decides = { decides-place };
+
+    fn same(&self, other: &Pair, bytes: Bytes<'_, '_, '_>) -> bool {
+        self.key.same(&other.key, bytes)
+    }
+}
+
 #[derive(Drop)]
-pub struct ListStore<'k, 'v> {
-    keys: &'k mut [Key],
-    values: &'v mut [Value],
-    len: usize,
-    room: usize,
-    count: u16,
-    most: u16,
-    ghost keyed: { room ≤ length keys.now },
-    ghost valued: { room ≤ length values.now },
-    ghost filled: { len ≤ room },
-    ghost counted: { count ≤ most },
-    ghost limits: { (room ≤ 16384) × (most ≤ 4096) },
+pub struct ListStore<'p> {
+    pairs: Stack<'p, Pair>,
+    tables: TableCount,
+    ghost limit: { room pairs ≤ most_pairs },
 }
 
-// The place of the key among the first `len`.
-fn place(keys: &[Key], len: usize, key: &Key, bytes: Bytes<'_, '_, '_>) -> Option<usize>
-    requires { len ≤ length keys.now }
-    ensures first { result ≡ first_place (λ k. same_place (place_of (memory_of bytes.entry) k) (place_of (memory_of bytes.entry) key.now)) (take len keys.now) }
-    ensures within { IfSome result (λ i. i < len) }
-{
-    first_equal(&keys[..len], key, bytes)
-}
-
-impl<'k, 'v> ListStore<'k, 'v> {
+impl<'p> ListStore<'p> {
     // An empty store over lent memory: it can hold what both the capacity and the memory allow.
-    pub fn new(
-        keys: &'k mut [Key],
-        values: &'v mut [Value],
-        capacity: Capacity,
-    ) -> ListStore<'k, 'v>
-        ensures holds { (m : Memory) → Holds result.keys.now result.values.now result.len result.count m [] }
-        ensures within { (u : ℕ) → Inside result.keys.now result.values.now result.len u }
-        ensures tables { result.most ≡ capacity.tables }
-        ensures room { result.room ≡ min capacity.pairs (min (length keys.old) (length values.old)) }
+    pub fn new(pairs: &'p mut [Pair], capacity: Capacity) -> ListStore<'p>
+        ensures holds { (m : Memory) → Holds (held result.pairs) result.tables.made m [] }
+        ensures within { (u : ℕ) → Inside (held result.pairs) u }
+        ensures tables { result.tables.most ≡ capacity.tables }
+        ensures room { room result.pairs ≡ min capacity.pairs (length pairs.old) }
     {
-        let lent = keys.len().min(values.len());
-        let room = lent.min(capacity.pairs() as usize);
+        let room = pairs.len().min(capacity.pairs() as usize);
         ListStore {
-            keys,
-            values,
-            len: 0,
-            room,
-            count: 0,
-            most: capacity.tables(),
+            pairs: Stack::new(&mut pairs[..room]),
+            tables: TableCount::new(capacity),
         }
     }
 
-    fn place_of(&self, table: Location, key: Value, bytes: Bytes<'_, '_, '_>) -> Option<usize>
-        ensures first { result ≡ first_place (λ k. same_place (place_of (memory_of bytes.entry) k) (place_of (memory_of bytes.entry) (record { location = table; value = key }))) (take self.now.len self.now.keys.now) }
-        ensures within { IfSome result (λ i. i < self.now.len) }
+    // The place of the pair with the key.
+    fn place_of(&self, key: Key, bytes: Bytes<'_, '_, '_>) -> Option<usize>
+        ensures first { result ≡ first_place (λ p. same_place (place_of (memory_of bytes.entry) p.key) (place_of (memory_of bytes.entry) key)) (held self.now.pairs) }
+        ensures within { IfSome result (λ i. i < length (held self.now.pairs)) }
     {
-        place(
-            self.keys,
-            self.len,
-            &Key {
-                location: table,
-                value: key,
-            },
-            bytes,
-        )
+        let value = Value::default();
+        first_equal(self.pairs.items(), &Pair { key, value }, bytes)
     }
 }
 
-impl Store for ListStore<'_, '_> {
-    ghost holds = { λ s. Holds s.keys.now s.values.now s.len s.count };
+impl Store for ListStore<'_> {
+    ghost holds = { λ s. Holds (held s.pairs) s.tables.made };
 
-    ghost within = { λ s. Inside s.keys.now s.values.now s.len };
+    ghost within = { λ s. Inside (held s.pairs) };
 
-    ghost tables = { λ s. s.most };
+    ghost tables = { λ s. s.tables.most };
 
-    ghost room = { λ s. s.room };
+    ghost room = { λ s. room s.pairs };
 
     fn lent_more(&self) {}
 
     fn clear(&mut self) {
-        self.len = 0;
-        self.count = 0;
+        self.pairs.clear();
+        self.tables.clear();
     }
 
     fn make(&mut self) -> Option<Location> {
-        if self.count >= self.most {
-            return None;
-        }
-        let made = self.count;
-        self.count += 1;
-        Some(Location(made))
+        self.tables.make()
     }
 
-    fn read(
-        &self,
-        table: Location,
-        key: Value,
-        bytes: Bytes<'_, '_, '_>,
-    ) -> Result<Option<Value>, NoTable> {
-        if table.0 >= self.count {
-            return Err(NoTable);
-        }
-        match self.place_of(table, key, bytes) {
-            Some(i) => Ok(Some(self.values[i])),
+    fn read(&self, key: Key, bytes: Bytes<'_, '_, '_>) -> Result<Option<Value>, NoTable> {
+        self.tables.check(key.location)?;
+        match self.place_of(key, bytes) {
+            Some(i) => Ok(Some(self.pairs.items()[i].value)),
             None => Ok(None),
         }
     }
 
-    fn write(
-        &mut self,
-        table: Location,
-        key: Value,
-        value: Value,
-        bytes: Bytes<'_, '_, '_>,
-    ) -> Result<(), Refusal> {
-        if table.0 >= self.count {
-            return Err(Refusal::NoTable);
-        }
-        match self.place_of(table, key, bytes) {
+    fn write(&mut self, key: Key, value: Value, bytes: Bytes<'_, '_, '_>) -> Result<(), Refusal> {
+        self.tables.check(key.location)?;
+        match self.place_of(key, bytes) {
             Some(i) => {
-                self.values[i] = value;
+                let pair = self.pairs.items()[i];
+                self.pairs.set(i, Pair { value, ..pair });
                 Ok(())
             }
-            None => {
-                let end = self.len;
-                if end >= self.room {
-                    return Err(Refusal::Full);
-                }
-                self.keys[end] = Key {
-                    location: table,
-                    value: key,
-                };
-                self.values[end] = value;
-                self.len = end + 1;
-                Ok(())
-            }
+            None => match self.pairs.push(Pair { key, value }) {
+                Ok(()) => Ok(()),
+                Err(_) => Err(Refusal::Full),
+            },
         }
     }
 }

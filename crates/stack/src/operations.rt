@@ -1,5 +1,5 @@
 // What a stack does; the slice stays its lender's, and no item of it is lost.
-ghost use Rattle.std.specs.Prelude.{◌≡◌, ◌+◌, ◌<◌, ◌≤◌, [], ◌∷◌, ◌++◌, length, take, drop, MatchOption, MatchResult, ◌==◌, slice_index_or};
+ghost use Rattle.std.specs.Prelude.{◌≡◌, ◌+◌, ◌<◌, ◌≤◌, [], ◌∷◌, ◌++◌, length, take, drop, MatchOption, MatchResult, OnErr, ◌==◌, slice_index_or, slice_set};
 ghost use Rattle.stack.specs.Held.{held, beyond, room, front};
 
 use crate::Stack;
@@ -88,6 +88,7 @@ impl<'a, T: Copy> Stack<'a, T> {
         ensures count { MatchResult result (λ _. length (held self.new) ≡ length (held self.old) + 1) (λ _. length (held self.new) ≡ length (held self.old)) }
         ensures held { MatchResult result (λ _. held self.new ≡ held self.old ++ x ∷ []) (λ _. held self.new ≡ held self.old) }
         ensures beyond { MatchResult result (λ _. beyond self.new ≡ drop 1 (beyond self.old)) (λ _. beyond self.new ≡ beyond self.old) }
+        ensures refused { OnErr result (self.new ≡ self.old) }
     {
         if self.is_full() {
             return Err(x);
@@ -110,6 +111,27 @@ impl<'a, T: Copy> Stack<'a, T> {
         }
         self.len -= 1;
         Some(self.items[self.len])
+    }
+
+    // Puts another item in the place `i` from the oldest.
+    pub fn set(&mut self, i: usize, x: T)
+        requires { i < length (held self.old) }
+        ensures lender { self.new.items.ghost_name ≡ self.old.items.ghost_name }
+        ensures room { room self.new ≡ room self.old }
+        ensures held { held self.new ≡ slice_set (held self.old) i x }
+        ensures beyond { beyond self.new ≡ beyond self.old }
+    {
+        self.items[i] = x;
+    }
+
+    // Leaves no item; their places in the slice keep them until others are put there.
+    pub fn clear(&mut self)
+        ensures lender { self.new.items.ghost_name ≡ self.old.items.ghost_name }
+        ensures room { room self.new ≡ room self.old }
+        ensures held { held self.new ≡ [] }
+        ensures beyond { beyond self.new ≡ held self.old ++ beyond self.old }
+    {
+        self.len = 0;
     }
 
     // Puts another item in place of the newest; an empty stack hands it back.

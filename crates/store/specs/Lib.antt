@@ -1,4 +1,5 @@
 pub mod Limits
+pub mod Words
 pub mod Val
 pub mod Tables
 pub mod Answers

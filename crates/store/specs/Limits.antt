@@ -1,8 +1,9 @@
 -- The most that a store is made for. Assumes nothing.
 use Rattle.std.specs.Prelude.{ℕ}
+use Rattle.store.specs.declared.capacity.TheConstants.{TABLES, PAIRS}
 
 abbrev pub most_tables : ℕ
-most_tables = 4096
+most_tables = TABLES
 
 abbrev pub most_pairs : ℕ
-most_pairs = 16384
+most_pairs = PAIRS

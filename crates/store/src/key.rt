@@ -8,7 +8,7 @@ use crate::value::{Location, Value, same};
 use text::search::Entry;
 use text::span::Bytes;
 
-#[derive(Clone, Copy)]
+#[derive(Clone, Copy, Default, Debug)]
 pub struct Key {
     pub location: Location,
     pub value: Value,
@@ -24,6 +24,6 @@ impl Entry for Key {
     ghost decides = { decides-place };
 
     fn same(&self, other: &Key, bytes: Bytes<'_, '_, '_>) -> bool {
-        self.location.0 == other.location.0 && same(self.value, other.value, bytes)
+        self.location == other.location && same(self.value, other.value, bytes)
     }
 }

@@ -4,28 +4,39 @@
 ghost use Rattle.std.specs.Prelude.{◌≡◌, ℕ, ◌≤◌, [], length, Ok, Err};
 ghost use Rattle.text.specs.Memory.{Memory, memory_of};
 ghost use Rattle.text.specs.Agree.{Grown};
+ghost use Rattle.store.specs.declared.Refusal.TheVariants as refusal;
 ghost use Rattle.store.specs.Limits.{most_tables, most_pairs};
 ghost use Rattle.store.specs.Val.{meaning, end_of};
 ghost use Rattle.store.specs.Tables.{Tables, pairs};
 ghost use Rattle.store.specs.Answers.{Makes, Reads, ReadsWithin, Has, Writes};
 
+use crate::key::Key;
 use crate::value::{Location, Value};
 use text::span::Bytes;
 
 pub mod capacity;
+pub mod count;
 pub mod key;
 pub mod laws;
 pub mod value;
 
 // The location was never made.
-#[derive(Clone, Copy)]
+#[derive(Clone, Copy, PartialEq, Eq, Debug)]
 pub struct NoTable;
 
 // Why a write is refused.
-#[derive(Clone, Copy)]
+#[derive(Clone, Copy, PartialEq, Eq, Debug)]
 pub enum Refusal {
     NoTable,
     Full,
+}
+
+impl From<NoTable> for Refusal {
+    ghost from_gives = { λ _ r. r ≡ refusal.NoTable };
+
+    fn from(_: NoTable) -> Refusal {
+        Refusal::NoTable
+    }
 }
 
 // What code over any store may rely on. A stored string is a span, so what a store holds depends on the bytes lent with a call.
@@ -63,36 +74,21 @@ pub trait Store {
         ensures room { room self.new ≡ room self.old };
 
     // The value under a key of a table, if there is one.
-    fn read(
-        &self,
-        table: Location,
-        key: Value,
-        bytes: Bytes<'_, '_, '_>,
-    ) -> Result<Option<Value>, NoTable>
-        ensures holds { (T : Tables) → holds self.now (memory_of bytes.entry) T → Reads (memory_of bytes.entry) T table.0 (meaning (memory_of bytes.entry) key) result }
+    fn read(&self, key: Key, bytes: Bytes<'_, '_, '_>) -> Result<Option<Value>, NoTable>
+        ensures holds { (T : Tables) → holds self.now (memory_of bytes.entry) T → Reads (memory_of bytes.entry) T key.location.0 (meaning (memory_of bytes.entry) key.value) result }
         ensures within { (u : ℕ) → within self.now u → ReadsWithin u result };
 
     // Whether a table has a key.
-    fn has(&self, table: Location, key: Value, bytes: Bytes<'_, '_, '_>) -> Result<bool, NoTable>
-        ensures { (T : Tables) → holds self.now (memory_of bytes.entry) T → Has T table.0 (meaning (memory_of bytes.entry) key) result }
+    fn has(&self, key: Key, bytes: Bytes<'_, '_, '_>) -> Result<bool, NoTable>
+        ensures { (T : Tables) → holds self.now (memory_of bytes.entry) T → Has T key.location.0 (meaning (memory_of bytes.entry) key.value) result }
     {
-        match self.read(table, key, bytes) {
-            Ok(Some(_)) => Ok(true),
-            Ok(None) => Ok(false),
-            Err(refused) => Err(refused),
-        }
+        Ok(self.read(key, bytes)?.is_some())
     }
 
     // Puts a value under a key of a table: in place where the key is there, else at the table's end.
-    fn write(
-        &mut self,
-        table: Location,
-        key: Value,
-        value: Value,
-        bytes: Bytes<'_, '_, '_>,
-    ) -> Result<(), Refusal>
-        ensures holds { (T : Tables) → holds self.old (memory_of bytes.entry) T → Writes (room self.old) T table.0 (meaning (memory_of bytes.entry) key) (meaning (memory_of bytes.entry) value) result (holds self.new (memory_of bytes.entry)) }
-        ensures within { (u : ℕ) → within self.old u → end_of key ≤ u → end_of value ≤ u → within self.new u }
+    fn write(&mut self, key: Key, value: Value, bytes: Bytes<'_, '_, '_>) -> Result<(), Refusal>
+        ensures holds { (T : Tables) → holds self.old (memory_of bytes.entry) T → Writes (room self.old) T key.location.0 (meaning (memory_of bytes.entry) key.value) (meaning (memory_of bytes.entry) value) result (holds self.new (memory_of bytes.entry)) }
+        ensures within { (u : ℕ) → within self.old u → end_of key.value ≤ u → end_of value ≤ u → within self.new u }
         ensures refusal { elim result [ Ok _ ↦ Unit {0} | Err _ ↦ self.new ≡ self.old ] }
         ensures tables { tables self.new ≡ tables self.old }
         ensures room { room self.new ≡ room self.old };

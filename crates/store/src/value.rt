@@ -1,24 +1,34 @@
 // Values of a run: what registers, globals and tables hold.
-ghost use Rattle.std.specs.Prelude.{◌≡◌, Decides};
+ghost use Rattle.std.specs.Prelude.{◌≡◌, Decides, pos};
 ghost use Rattle.text.specs.Memory.{memory_of};
+ghost use Rattle.store.specs.declared.value.Value.TheVariants.{Int};
 ghost use Rattle.store.specs.Val.{meaning};
 
 use text::span::{Bytes, Span, same_span};
 
 // A table's number; never a register's or a place's in the code.
-#[derive(Clone, Copy, PartialEq, Eq)]
+#[derive(Clone, Copy, PartialEq, Eq, Default, Debug)]
 pub struct Location(pub u16);
 
 // A function or a global by its number.
-#[derive(Clone, Copy, PartialEq, Eq)]
+#[derive(Clone, Copy, PartialEq, Eq, Debug)]
 pub struct Identifier(pub u16);
 
-#[derive(Clone, Copy)]
+#[derive(Clone, Copy, Debug)]
 pub enum Value {
     Int(i32),
     Str(Span),
     Ident(Identifier),
     Loc(Location),
+}
+
+// For memory that is lent: what it holds before does not matter.
+impl Default for Value {
+    ghost is_default = { λ v. v ≡ Int (pos 0) };
+
+    fn default() -> Value {
+        Value::Int(0)
+    }
 }
 
 // Whether two values mean the same: of one kind and of one content, strings by their bytes.
@@ -28,8 +38,8 @@ pub fn same(a: Value, b: Value, bytes: Bytes<'_, '_, '_>) -> bool
     match (a, b) {
         (Value::Int(x), Value::Int(y)) => x == y,
         (Value::Str(x), Value::Str(y)) => same_span(bytes, x, y),
-        (Value::Ident(x), Value::Ident(y)) => x.0 == y.0,
-        (Value::Loc(x), Value::Loc(y)) => x.0 == y.0,
+        (Value::Ident(x), Value::Ident(y)) => x == y,
+        (Value::Loc(x), Value::Loc(y)) => x == y,
         _ => false,
     }
 }

@@ -25,8 +25,7 @@ invariant_of-self c =
     record {
       entered = long-set s.room es t r s.entered;
       filled = s.filled;
-      counted = s.counted;
-      limits = s.limits;
+      limit = s.limit;
       numbered = s.numbered;
       firsts = linked.0;
       lasts = linked.1.0;
@@ -48,8 +47,7 @@ invariant_of-self-then-begun c =
     record {
       entered = long-set s.room (set es t r) s.len e (long-set s.room es t r s.entered);
       filled = s.filled;
-      counted = s.counted;
-      limits = s.limits;
+      limit = s.limit;
       numbered = s.numbered;
       firsts = linked.0;
       lasts = linked.1.0;
@@ -72,8 +70,7 @@ invariant_of-self-then-begun-2 c =
     record {
       entered = long-set s.room (set es t r) s.len e (long-set s.room es t r s.entered);
       filled = omega arith;
-      counted = s.counted;
-      limits = s.limits;
+      limit = s.limit;
       numbered = λ h. long-set 1 cs b _ (s.numbered h);
       firsts = linked.0;
       lasts = linked.1.0;
@@ -90,8 +87,7 @@ invariant_of-self-else-begun c =
     record {
       entered = long-set s.room es s.len e s.entered;
       filled = s.filled;
-      counted = s.counted;
-      limits = s.limits;
+      limit = s.limit;
       numbered = s.numbered;
       firsts = linked.0;
       lasts = linked.1.0;
@@ -112,8 +108,7 @@ invariant_of-self-else-begun-2 c =
     record {
       entered = long-set s.room es s.len e s.entered;
       filled = omega arith;
-      counted = s.counted;
-      limits = s.limits;
+      limit = s.limit;
       numbered = λ h. long-set 1 cs b _ (s.numbered h);
       firsts = linked.0;
       lasts = linked.1.0;
@@ -138,9 +133,9 @@ returns-then-begun c =
     let fit' : s.len ≤ length es' = omega arith in
     record {
       holds = λ T h first there.
-          subst (λ (n : ℕ). Holds (set es' s.len e) n (s.len + 1) s.count m (write T k.location.0 (meaning m k.value) (meaning m c.args.value))) (sym (length-set cs b _))
-          (holds-push es' s.len fit' many s.count m T (holds-lead es s.len (fit s) many s.count m T h t s.len low) e
-          (first ∙ first-lead es s.len (fit s) many s.count m T h t s.len (place_of m k) low) lt there c.bucket_of-bucket.ensures.value);
+          subst (λ (n : ℕ). Holds (set es' s.len e) n (s.len + 1) s.tables.made m (write T k.location.0 (meaning m k.value) (meaning m c.args.value))) (sym (length-set cs b _))
+          (holds-push es' s.len fit' many s.tables.made m T (holds-lead es s.len (fit s) many s.tables.made m T h t s.len low) e
+          (first ∙ first-lead es s.len (fit s) many s.tables.made m T h t s.len (place_of m k) low) lt there c.bucket_of-bucket.ensures.value);
       within = λ u w p q. inside-push es' s.len fit' u e lt (inside-lead es s.len (fit s) u t s.len low w) p q;
       tables = refl;
       room = refl;
@@ -158,8 +153,8 @@ returns-else-begun c =
     let lt : s.len < length es = omega (arith, s.entered, c.requires) in
     record {
       holds = λ T h first there.
-          subst (λ (n : ℕ). Holds (set es s.len e) n (s.len + 1) s.count m (write T k.location.0 (meaning m k.value) (meaning m c.args.value))) (sym (length-set cs b _))
-          (holds-push es s.len (fit s) (length cs) s.count m T h e first lt there c.bucket_of-bucket.ensures.value);
+          subst (λ (n : ℕ). Holds (set es s.len e) n (s.len + 1) s.tables.made m (write T k.location.0 (meaning m k.value) (meaning m c.args.value))) (sym (length-set cs b _))
+          (holds-push es s.len (fit s) (length cs) s.tables.made m T h e first lt there c.bucket_of-bucket.ensures.value);
       within = λ u w p q. inside-push es s.len (fit s) u e lt w p q;
       tables = refl;
       room = refl;

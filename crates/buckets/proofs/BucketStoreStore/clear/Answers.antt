@@ -1,6 +1,5 @@
-use Rattle.std.proofs.Common.{refl}
 use Rattle.buckets.proofs.Storing.{holds-nothing}
 use Rattle.buckets.proofs.BucketStoreStore.clear.Goals as goal
 
-pub returns : goal.returns
-returns c = record { holds = λ m. holds-nothing _ _ m; within = λ u. tt; tables = refl; room = refl }
+pub returns-clause-holds : goal.returns-clause-holds
+returns-clause-holds c = λ m. rw c.clear.ensures.none (holds-nothing _ _ m)

@@ -9,8 +9,8 @@ returns c =
     let many = length s.chains.now in
     let fit : s.len ≤ length es = omega (arith, s.filled, s.entered) in
     record {
-      limits = (s.limits.1, s.limits.0);
-      bounded = λ m T h. (omega (arith, holds-length es s.len fit many s.count m T h, s.counted), omega (arith, holds-pairs es s.len fit many s.count m T h, s.filled));
-      grows = holds-grown es many s.len s.count;
+      limits = (s.tables.limit, s.limit);
+      bounded = λ m T h. (omega (arith, holds-length es s.len fit many s.tables.made m T h, s.tables.counted), omega (arith, holds-pairs es s.len fit many s.tables.made m T h, s.filled));
+      grows = holds-grown es many s.len s.tables.made;
       wider = inside-wider es s.len;
     }

@@ -1,27 +1,15 @@
-use Rattle.std.proofs.Common.{◌≤◌, length, sym, refl, arith}
+use Rattle.std.proofs.Common.{length}
+use Rattle.store.proofs.Counting.{makes}
+use Rattle.buckets.specs.Stored.{Holds}
+use Rattle.buckets.proofs.Chaining.{fit}
 use Rattle.buckets.proofs.Storing.{holds-length, holds-make}
 use Rattle.buckets.proofs.BucketStoreStore.make.Goals as goal
 
-pub returns-then-self : goal.returns-then-self
-returns-then-self c =
+pub returns-clause-holds : goal.returns-clause-holds
+returns-clause-holds c = λ m T h.
     let s = c.args.self.now in
-    let fit : s.len ≤ length s.entries.now = omega (arith, s.filled, s.entered) in
-    record {
-      holds = λ m T h. (omega (arith, holds-length s.entries.now s.len fit (length s.chains.now) s.count m T h), h);
-      within = λ u w. w;
-      tables = refl;
-      room = refl;
-    }
-
-pub returns : goal.returns
-returns c =
-    let s = c.args.self.now in
-    let fit : s.len ≤ length s.entries.now = omega (arith, s.filled, s.entered) in
-    record {
-      holds = λ m T h.
-          let many = holds-length s.entries.now s.len fit (length s.chains.now) s.count m T h in
-          (omega arith, sym many, holds-make s.entries.now s.len fit (length s.chains.now) s.count m T h);
-      within = λ u w. w;
-      tables = refl;
-      room = refl;
-    }
+    let es = s.entries.now in
+    let many = length s.chains.now in
+    let n = s.tables.made in
+    makes (λ k. Holds es many s.len k m) s.tables.most n c.make.new.self.made c.make.result T
+    (holds-length es s.len (fit s) many n m T h) h (holds-make es s.len (fit s) many n m T h) c.make.ensures.made

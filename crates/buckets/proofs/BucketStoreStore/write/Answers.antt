@@ -1,7 +1,7 @@
 use Rattle.std.proofs.Common.{length, get_or, is_some, refl, ap, ◌∙◌, arith}
 use Rattle.std.proofs.lemmas.Bool.{lt-ltb, le-ltb}
+use Rattle.std.proofs.lemmas.Result.{err_from_is_err_and}
 use Rattle.text.specs.Memory.{memory_of}
-use Rattle.store.specs.declared.key.Key.{Key}
 use Rattle.store.proofs.Tables.{takes-present, takes-new}
 use Rattle.buckets.specs.Chains.{unused}
 use Rattle.buckets.proofs.Chaining.{links, fit, long-set, linked-set}
@@ -19,8 +19,7 @@ invariant_of-self c =
     record {
       entered = long-set s.room es i e s.entered;
       filled = s.filled;
-      counted = s.counted;
-      limits = s.limits;
+      limit = s.limit;
       numbered = s.numbered;
       firsts = linked.0;
       lasts = linked.1.0;
@@ -28,16 +27,11 @@ invariant_of-self c =
       gaps = linked.1.1.1.0;
     }
 
-pub returns-then-table-self : goal.returns-then-table-self
-returns-then-table-self c =
+pub returns-in_err-check-clause-holds : goal.returns-in_err-check-clause-holds
+returns-in_err-check-clause-holds c =
     let s = c.args.self.now in
-    record {
-      holds = λ T h. (holds-unmade s.entries.now s.len (fit s) (length s.chains.now) s.count (memory_of c.args.bytes) T h c.args.table.0 (omega arith), h);
-      within = λ u w _ _. w;
-      refusal = refl;
-      tables = refl;
-      room = refl;
-    }
+    let p = err_from_is_err_and c.from_residual.result c.from_residual.ensures.1 in
+    rw (p.1, p.2) (λ T h. (holds-unmade s.entries.now s.len (fit s) (length s.chains.now) s.tables.made (memory_of c.args.bytes) T h c.args.key.location.0 c.in_err-check.ensures, h))
 
 pub returns-in-Some : goal.returns-in-Some
 returns-in-Some c =
@@ -45,15 +39,15 @@ returns-in-Some c =
     let es = s.entries.now in
     let many = length s.chains.now in
     let m = memory_of c.args.bytes in
-    let k : Key = record { location = c.args.table; value = c.args.key } in
+    let k = c.args.key in
     let i = c.in-Some.i in
     let v = c.args.value in
     let at = c.in-Some.ensures in
     record {
       holds = λ T h.
-          let there = holds-made es s.len (fit s) many s.count m T h c.args.table.0 (omega arith) in
-          let found = holds-found es s.len (fit s) many s.count m T h k i (at.first h.placed) at.within in
-          (there, takes-present s.room T _ _ there (ap is_some found), holds-set es s.len (fit s) many s.count m T h k i v (at.first h.placed) at.within (omega arith));
+          let there = holds-made es s.len (fit s) many s.tables.made m T h c.args.key.location.0 c.in_ok-check.ensures in
+          let found = holds-found es s.len (fit s) many s.tables.made m T h k i (at.first h.placed) at.within in
+          (there, takes-present s.room T _ _ there (ap is_some found), holds-set es s.len (fit s) many s.tables.made m T h k i v (at.first h.placed) at.within c.in_ok-check.ensures);
       within = λ u w _ e. inside-set es s.len (fit s) u i v at.within w e;
       refusal = tt;
       tables = refl;
@@ -66,12 +60,12 @@ returns-then-self c =
     let es = s.entries.now in
     let many = length s.chains.now in
     let m = memory_of c.args.bytes in
-    let k : Key = record { location = c.args.table; value = c.args.key } in
+    let k = c.args.key in
     record {
       holds = λ T h.
-          let there = holds-made es s.len (fit s) many s.count m T h c.args.table.0 (omega arith) in
-          let none = holds-none es s.len (fit s) many s.count m T h k (c.in-None.ensures.first h.placed) in
-          (there, takes-new s.room T _ _ there none ∙ le-ltb _ _ (omega (arith, holds-pairs es s.len (fit s) many s.count m T h)), h);
+          let there = holds-made es s.len (fit s) many s.tables.made m T h c.args.key.location.0 c.in_ok-check.ensures in
+          let none = holds-none es s.len (fit s) many s.tables.made m T h k (c.in-None.ensures.first h.placed) in
+          (there, takes-new s.room T _ _ there none ∙ le-ltb _ _ (omega (arith, holds-pairs es s.len (fit s) many s.tables.made m T h)), h);
       within = λ u w _ _. w;
       refusal = refl;
       tables = refl;
@@ -84,13 +78,13 @@ returns-else-self c =
     let es = s.entries.now in
     let many = length s.chains.now in
     let m = memory_of c.args.bytes in
-    let k : Key = record { location = c.args.table; value = c.args.key } in
+    let k = c.args.key in
     record {
       holds = λ T h.
-          let there = holds-made es s.len (fit s) many s.count m T h c.args.table.0 (omega arith) in
+          let there = holds-made es s.len (fit s) many s.tables.made m T h c.args.key.location.0 c.in_ok-check.ensures in
           let first = c.in-None.ensures.first h.placed in
-          let none = holds-none es s.len (fit s) many s.count m T h k first in
-          (there, takes-new s.room T _ _ there none ∙ lt-ltb _ _ (omega (arith, holds-pairs es s.len (fit s) many s.count m T h)), c.append.ensures.holds T h first (omega arith));
+          let none = holds-none es s.len (fit s) many s.tables.made m T h k first in
+          (there, takes-new s.room T _ _ there none ∙ lt-ltb _ _ (omega (arith, holds-pairs es s.len (fit s) many s.tables.made m T h)), c.append.ensures.holds T h first c.in_ok-check.ensures);
       within = c.append.ensures.within;
       refusal = tt;
       tables = c.append.ensures.tables;

@@ -1,6 +1,5 @@
-use Rattle.std.proofs.Common.{arith}
-use Rattle.list.proofs.Listing.{holds-nothing}
+use Rattle.store.proofs.Filing.{files-none}
 use Rattle.list.proofs.ListStore.new.Goals as goal
 
-pub returns : goal.returns
-returns c = record { holds = holds-nothing; within = λ u. (tt, tt); tables = c.tables.ensures.value; room = omega arith }
+pub returns-clause-holds : goal.returns-clause-holds
+returns-clause-holds c = λ m. rw (c.new.ensures.held, c.new-2.ensures.none) files-none

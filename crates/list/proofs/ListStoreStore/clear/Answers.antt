@@ -1,6 +1,5 @@
-use Rattle.std.proofs.Common.{refl}
-use Rattle.list.proofs.Listing.{holds-nothing}
+use Rattle.store.proofs.Filing.{files-none}
 use Rattle.list.proofs.ListStoreStore.clear.Goals as goal
 
-pub returns : goal.returns
-returns c = record { holds = holds-nothing; within = λ u. (tt, tt); tables = refl; room = refl }
+pub returns-clause-holds : goal.returns-clause-holds
+returns-clause-holds c = λ m. rw (c.clear.ensures.held, c.clear-2.ensures.none) files-none

@@ -1,18 +1,12 @@
-use Rattle.std.proofs.Common.{sym, refl, arith}
+use Rattle.stack.specs.Held.{held}
+use Rattle.store.proofs.Counting.{makes}
+use Rattle.list.specs.Listed.{Holds}
 use Rattle.list.proofs.Listing.{holds-length, holds-make}
 use Rattle.list.proofs.ListStoreStore.make.Goals as goal
 
-pub returns-then-self : goal.returns-then-self
-returns-then-self c =
+pub returns-clause-holds : goal.returns-clause-holds
+returns-clause-holds c = λ m T h.
     let s = c.args.self.now in
-    record { holds = λ m T h. (omega (arith, holds-length s m T h), h); within = λ u w. w; tables = refl; room = refl }
-
-pub returns : goal.returns
-returns c =
-    let s = c.args.self.now in
-    record {
-      holds = λ m T h. (omega (arith, holds-length s m T h), sym (holds-length s m T h), holds-make s m T h);
-      within = λ u w. w;
-      tables = refl;
-      room = refl;
-    }
+    let ps = held s.pairs in
+    let n = s.tables.made in
+    makes (λ k. Holds ps k m) s.tables.most n c.make.new.self.made c.make.result T (holds-length ps n m T h) h (holds-make ps n m T h) c.make.ensures.made

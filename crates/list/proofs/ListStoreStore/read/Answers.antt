@@ -1,32 +1,26 @@
-use Rattle.std.proofs.Common.{sym, arith}
+use Rattle.std.proofs.Common.{sym}
+use Rattle.std.proofs.lemmas.Result.{err_from_is_err_and}
 use Rattle.text.specs.Memory.{memory_of}
-use Rattle.store.specs.declared.key.Key.{Key}
-use Rattle.list.proofs.Listing.{holds-made, holds-unmade, holds-found, holds-none, inside-value}
+use Rattle.stack.specs.Held.{held}
+use Rattle.list.proofs.Listing.{holds-made, holds-unmade, holds-found, holds-none}
 use Rattle.list.proofs.ListStoreStore.read.Goals as goal
 
-pub returns-then-table-self : goal.returns-then-table-self
-returns-then-table-self c =
+pub returns-in_err-check-clause-holds : goal.returns-in_err-check-clause-holds
+returns-in_err-check-clause-holds c =
     let s = c.args.self.now in
-    let m = memory_of c.args.bytes in
-    record { holds = λ T h. holds-unmade s m T h c.args.table.0 (omega arith); within = λ u w. tt }
+    let p = err_from_is_err_and c.from_residual.result c.from_residual.ensures.1 in
+    rw p.1 (λ T h. holds-unmade (held s.pairs) s.tables.made (memory_of c.args.bytes) T h c.args.key.location.0 c.in_err-check.ensures)
 
-pub returns-in-Some : goal.returns-in-Some
-returns-in-Some c =
+pub returns-in-Some-clause-holds : goal.returns-in-Some-clause-holds
+returns-in-Some-clause-holds c = λ T h.
     let s = c.args.self.now in
     let m = memory_of c.args.bytes in
-    let k : Key = record { location = c.args.table; value = c.args.key } in
     let at = c.in-Some.ensures in
-    record {
-      holds = λ T h. (holds-made s m T h c.args.table.0 (omega arith), sym (holds-found s m T h k c.in-Some.i _ at.first at.within));
-      within = λ u w. inside-value s u c.in-Some.i _ at.within w;
-    }
+    rw c.items.ensures
+    (holds-made (held s.pairs) s.tables.made m T h c.args.key.location.0 c.in_ok-check.ensures, sym (holds-found (held s.pairs) s.tables.made m T h c.args.key c.in-Some.i _ at.first at.within))
 
-pub returns-in-None : goal.returns-in-None
-returns-in-None c =
+pub returns-in-None-clause-holds : goal.returns-in-None-clause-holds
+returns-in-None-clause-holds c = λ T h.
     let s = c.args.self.now in
     let m = memory_of c.args.bytes in
-    let k : Key = record { location = c.args.table; value = c.args.key } in
-    record {
-      holds = λ T h. (holds-made s m T h c.args.table.0 (omega arith), sym (holds-none s m T h k c.in-None.ensures.first));
-      within = λ u w. tt;
-    }
+    (holds-made (held s.pairs) s.tables.made m T h c.args.key.location.0 c.in_ok-check.ensures, sym (holds-none (held s.pairs) s.tables.made m T h c.args.key c.in-None.ensures.first))

@@ -4,17 +4,9 @@ use Rattle.store.specs.Val.{meaning}
 use Rattle.store.proofs.Tables.{read-write}
 use Rattle.store.proofs.laws.write_then_read.Goals as goal
 
-pub returns-in-Ok : goal.returns-in-Ok
-returns-in-Ok g c =
+pub returns-clause-read : goal.returns-clause-read
+returns-clause-read g c = λ T h.
     let m = memory_of c.args.bytes in
-    let wrote = c.in_ok-write.ensures in
-    record {
-      read = λ T h.
-          let w = wrote.holds T h in
-          (c.in-Ok.ensures.holds _ w.2).1
-          ∙ read-write T c.args.table.0 (meaning m c.args.key) (meaning m c.args.value) (meaning m c.args.asked) w.0;
-      holds = λ T h. (wrote.holds T h).2;
-      within = wrote.within;
-      tables = wrote.tables;
-      room = wrote.room;
-    }
+    let w = c.in_ok-write.ensures.holds T h in
+    (c.in_ok-read.ensures.holds _ w.2).1
+    ∙ read-write T c.args.key.location.0 (meaning m c.args.key.value) (meaning m c.args.value) (meaning m c.args.asked) w.0
