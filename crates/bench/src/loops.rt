@@ -1,17 +1,16 @@
 // Loops that count, in measured steps: in registers, in a table, by calls.
 use anyhow::anyhow;
-use buckets::{BucketStore, UNLINKED, UNUSED};
+use buckets::{BucketStore, Chain, Chained};
 use calls::frame::Frame;
 use calls::program::Code;
 use code::table::{Full, Open, Place, Record, Sealed, UNLAID};
 use effects::literals::Literals;
-use list::ListStore;
+use list::{ListStore, Pair};
 use machine::instruction::{Instruction, Offset, Register};
 use std::time::Instant;
 use store::Store;
 use store::capacity::Capacity;
-use store::key::Key;
-use store::value::{Identifier, Location, Value};
+use store::value::{Identifier, Value};
 use text::span::{Space, Span};
 use vm::run::Run;
 
@@ -149,20 +148,15 @@ fn loops<S: Store>(rt: &HostRuntime, store: &mut S) -> anyhow::Result<()> {
 }
 
 pub fn measure(rt: &HostRuntime) -> anyhow::Result<()> {
-    let unset = Key {
-        location: Location(0),
-        value: Value::Int(0),
-    };
-    let mut keys = [unset; 16384];
-    let mut values = [Value::Int(0); 16384];
-    let mut entries = [UNUSED; 16384];
-    let mut chains = [UNLINKED; 16384];
+    let mut pairs = [Pair::default(); 16384];
+    let mut entries = [Chained::default(); 16384];
+    let mut chains = [Chain::default(); 16384];
     let Ok(capacity) = Capacity::new(4096, 16384) else {
         return Ok(());
     };
     println!(rt; "loop\tsteps\ta second")?;
     println!(rt; "over the list store")?;
-    loops(rt, &mut ListStore::new(&mut keys, &mut values, capacity))?;
+    loops(rt, &mut ListStore::new(&mut pairs, capacity))?;
     println!(rt; "over the bucket store")?;
     loops(
         rt,

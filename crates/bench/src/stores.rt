@@ -1,6 +1,6 @@
 // Reads, tests and writes of random keys in stores that are filled with pairs.
-use buckets::{BucketStore, UNLINKED, UNUSED};
-use list::ListStore;
+use buckets::{BucketStore, Chain, Chained};
+use list::{ListStore, Pair};
 use std::time::Instant;
 use store::Store;
 use store::capacity::Capacity;
@@ -11,8 +11,8 @@ use text::span::{Bytes, Space, Span};
 const TABLES: u16 = 64;
 
 // The key of pair i: every second one is a string of 8 bytes.
-fn key(i: u16) -> Value {
-    if i % 2 == 0 {
+fn key(i: u16) -> Key {
+    let value = if i % 2 == 0 {
         Value::Int(i as i32)
     } else {
         Value::Str(Span {
@@ -20,6 +20,10 @@ fn key(i: u16) -> Value {
             start: i,
             len: 8,
         })
+    };
+    Key {
+        location: Location(i % TABLES),
+        value,
     }
 }
 
@@ -47,7 +51,7 @@ fn fill<S: Store>(store: &mut S, pairs: u16, bytes: Bytes<'_, '_, '_>) {
         let _ = store.make();
     }
     for i in 0..pairs {
-        let _ = store.write(Location(i % TABLES), key(i), Value::Int(0), bytes);
+        let _ = store.write(key(i), Value::Int(0), bytes);
     }
 }
 
@@ -58,11 +62,10 @@ fn work<S: Store>(store: &mut S, pairs: u16, operations: u32, bytes: Bytes<'_, '
     for n in 0..operations {
         let high = (random.next() >> 16) as u16;
         let i = if pairs == 0 { 0 } else { high % pairs };
-        let table = Location(i % TABLES);
         let present = match n % 4 {
-            0 => store.write(table, key(i), Value::Int(1), bytes).is_ok(),
-            1 => store.has(table, key(i), bytes).unwrap_or(false),
-            _ => matches!(store.read(table, key(i), bytes), Ok(Some(_))),
+            0 => store.write(key(i), Value::Int(1), bytes).is_ok(),
+            1 => store.has(key(i), bytes).unwrap_or(false),
+            _ => matches!(store.read(key(i), bytes), Ok(Some(_))),
         };
         if present {
             found = found.saturating_add(1);
@@ -100,19 +103,14 @@ pub fn measure(rt: &HostRuntime) -> anyhow::Result<()> {
         texts: &texts,
         made: b"",
     };
-    let unset = Key {
-        location: Location(0),
-        value: Value::Int(0),
-    };
-    let mut keys = [unset; 16384];
-    let mut values = [Value::Int(0); 16384];
-    let mut entries = [UNUSED; 16384];
-    let mut chains = [UNLINKED; 16384];
+    let mut pairs = [Pair::default(); 16384];
+    let mut entries = [Chained::default(); 16384];
+    let mut chains = [Chain::default(); 16384];
     println!(rt; "store\tpairs\toperations\tfound\ta second")?;
     let Ok(capacity) = Capacity::new(TABLES, 16384) else {
         return Ok(());
     };
-    let mut list = ListStore::new(&mut keys, &mut values, capacity);
+    let mut list = ListStore::new(&mut pairs, capacity);
     time(rt, "list", &mut list, 100, 4000000, bytes)?;
     time(rt, "list", &mut list, 1000, 400000, bytes)?;
     time(rt, "list", &mut list, 16384, 40000, bytes)?;

@@ -17,6 +17,7 @@ use operands::answer::{Answer, answer_of};
 use operands::globals::Globals;
 use operands::registers::{operand, value};
 use store::Store;
+use store::key::Key;
 use store::value::{Identifier, Value};
 use text::span::Bytes;
 
@@ -98,10 +99,12 @@ fn write_key<S: Store>(
     ensures within { (u : ℕ) → Within u registers.now → S.Store.within store.old u → S.Store.within store.new u }
     ensures limits { (S.Store.tables store.new ≡ S.Store.tables store.old) × (S.Store.room store.new ≡ S.Store.room store.old) }
 {
-    let table = operand(registers, a)?;
-    let key = value(registers, b)?;
+    let key = Key {
+        location: operand(registers, a)?,
+        value: value(registers, b)?,
+    };
     let v = value(registers, c)?;
-    store.write(table, key, v, bytes)?;
+    store.write(key, v, bytes)?;
     Ok(())
 }
 

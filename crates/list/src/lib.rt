@@ -36,6 +36,7 @@ impl Entry for Pair {
 
     ghost decides = { decides-place };
 
+    #[inline(always)]
     fn same(&self, other: &Pair, bytes: Bytes<'_, '_, '_>) -> bool {
         self.key.same(&other.key, bytes)
     }

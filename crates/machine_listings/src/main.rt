@@ -2,28 +2,22 @@
 #![tactic(auto)]
 
 use crate::listings::{FIXED, LISTINGS, Listing};
-use buckets::{BucketStore, UNLINKED, UNUSED};
+use buckets::{BucketStore, Chain, Chained};
 use calls::frame::Frame;
 use calls::program::Code;
 use code::table::{Full, Open, Place, Record, Sealed, UNLAID};
 use effects::literals::Literals;
-use list::ListStore;
+use list::{ListStore, Pair};
 use machine::ending::Ending;
 use std::io;
 use store::Store;
 use store::capacity::Capacity;
-use store::key::Key;
-use store::value::{Identifier, Location, Value};
+use store::value::{Identifier, Value};
 use vm::run::Run;
 
 mod listings;
 
 const BUDGET: u32 = 1000;
-
-const KEY: Key = Key {
-    location: Location(0),
-    value: Value::Int(0),
-};
 
 const NO_FRAME: Frame = Frame {
     function: Identifier(0),
@@ -85,13 +79,12 @@ fn show(rt: &HostRuntime, listing: Listing) -> io::Result<()> {
     let Ok(capacity) = Capacity::new(3, 4) else {
         return println!(rt; "no capacity");
     };
-    let mut keys = [KEY; 4];
-    let mut values = [Value::Int(0); 4];
-    let mut list = ListStore::new(&mut keys, &mut values, capacity);
+    let mut pairs = [Pair::default(); 4];
+    let mut list = ListStore::new(&mut pairs, capacity);
     run(rt, &code, &records, &mut list)?;
     print!(rt; " | ")?;
-    let mut entries = [UNUSED; 4];
-    let mut chains = [UNLINKED; 3];
+    let mut entries = [Chained::default(); 4];
+    let mut chains = [Chain::default(); 3];
     let mut buckets = BucketStore::new(&mut entries, &mut chains, capacity);
     run(rt, &code, &records, &mut buckets)?;
     println!(rt)

@@ -9,6 +9,7 @@ use crate::registers::{operand, truth, value};
 use machine::ending::Ending;
 use machine::instruction::Register;
 use store::Store;
+use store::key::Key;
 use store::value::Value;
 use text::span::Bytes;
 
@@ -23,9 +24,11 @@ pub(crate) fn read_key<S: Store>(
     ensures read { (T : Tables) → S.Store.holds store.now (memory_of bytes.entry) T → answered (memory_of bytes.entry) result ≡ key_at T (registers_of (memory_of bytes.entry) registers.now) b.0 c.0 }
     ensures within { (u : ℕ) → S.Store.within store.now u → EndsBy u result }
 {
-    let table = operand(registers, b)?;
-    let key = value(registers, c)?;
-    store.read(table, key, bytes)?.ok_or(Ending::Stuck)
+    let key = Key {
+        location: operand(registers, b)?,
+        value: value(registers, c)?,
+    };
+    store.read(key, bytes)?.ok_or(Ending::Stuck)
 }
 
 // Whether a key is there.
@@ -39,7 +42,9 @@ pub(crate) fn has_key<S: Store>(
     ensures answered { (T : Tables) → S.Store.holds store.now (memory_of bytes.entry) T → answered (memory_of bytes.entry) result ≡ has_key_at T (registers_of (memory_of bytes.entry) registers.now) b.0 c.0 }
     ensures within { (u : ℕ) → S.Store.within store.now u → EndsBy u result }
 {
-    let table = operand(registers, b)?;
-    let key = value(registers, c)?;
-    Ok(truth(store.has(table, key, bytes)?))
+    let key = Key {
+        location: operand(registers, b)?,
+        value: value(registers, c)?,
+    };
+    Ok(truth(store.has(key, bytes)?))
 }
