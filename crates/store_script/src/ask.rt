@@ -1,4 +1,5 @@
 // What can be asked of a store, and what it answers.
+use store::key::Key;
 use store::value::{Location, Value, same};
 use store::{Refusal, Store};
 use text::span::Bytes;
@@ -7,66 +8,64 @@ use text::span::Bytes;
 pub enum Ask {
     Clear,
     Make,
-    Has(Location, Value),
-    Read(Location, Value),
-    Write(Location, Value, Value),
+    Has(Key),
+    Read(Key),
+    Write(Key, Value),
 }
 
 #[derive(Clone, Copy)]
-pub enum Answer {
+pub enum Reply {
     Cleared,
-    Made(Location),
-    NoMore,
-    Yes,
-    No,
-    Found(Value),
-    Nothing,
+    Made(Option<Location>),
+    Has(bool),
+    Found(Option<Value>),
     Written,
-    NoTable,
-    Full,
 }
 
-pub fn reply<S: Store>(store: &mut S, ask: Ask, bytes: Bytes<'_, '_, '_>) -> Answer {
-    match ask {
+// A refusal of any kind is told as a write's.
+pub fn put_to<S: Store>(
+    store: &mut S,
+    ask: Ask,
+    bytes: Bytes<'_, '_, '_>,
+) -> Result<Reply, Refusal> {
+    Ok(match ask {
         Ask::Clear => {
             store.clear();
-            Answer::Cleared
+            Reply::Cleared
         }
-        Ask::Make => match store.make() {
-            Some(location) => Answer::Made(location),
-            None => Answer::NoMore,
-        },
-        Ask::Has(table, key) => match store.has(table, key, bytes) {
-            Ok(true) => Answer::Yes,
-            Ok(false) => Answer::No,
-            Err(_) => Answer::NoTable,
-        },
-        Ask::Read(table, key) => match store.read(table, key, bytes) {
-            Ok(Some(value)) => Answer::Found(value),
-            Ok(None) => Answer::Nothing,
-            Err(_) => Answer::NoTable,
-        },
-        Ask::Write(table, key, value) => match store.write(table, key, value, bytes) {
-            Ok(()) => Answer::Written,
-            Err(Refusal::NoTable) => Answer::NoTable,
-            Err(Refusal::Full) => Answer::Full,
-        },
+        Ask::Make => Reply::Made(store.make()),
+        Ask::Has(key) => Reply::Has(store.has(key, bytes)?),
+        Ask::Read(key) => Reply::Found(store.read(key, bytes)?),
+        Ask::Write(key, value) => {
+            store.write(key, value, bytes)?;
+            Reply::Written
+        }
+    })
+}
+
+impl Reply {
+    // Whether two replies say the same; values by what they mean.
+    pub fn agrees(self, other: Reply, bytes: Bytes<'_, '_, '_>) -> bool {
+        match (self, other) {
+            (Reply::Cleared, Reply::Cleared) | (Reply::Written, Reply::Written) => true,
+            (Reply::Made(x), Reply::Made(y)) => x == y,
+            (Reply::Has(x), Reply::Has(y)) => x == y,
+            (Reply::Found(Some(x)), Reply::Found(Some(y))) => same(x, y, bytes),
+            (Reply::Found(x), Reply::Found(y)) => x.is_none() && y.is_none(),
+            _ => false,
+        }
     }
 }
 
-// Whether two answers say the same; values by what they mean.
-pub fn agree(a: Answer, b: Answer, bytes: Bytes<'_, '_, '_>) -> bool {
+// Whether two answers say the same.
+pub fn agree(
+    a: Result<Reply, Refusal>,
+    b: Result<Reply, Refusal>,
+    bytes: Bytes<'_, '_, '_>,
+) -> bool {
     match (a, b) {
-        (Answer::Made(x), Answer::Made(y)) => x.0 == y.0,
-        (Answer::Found(x), Answer::Found(y)) => same(x, y, bytes),
-        (Answer::Cleared, Answer::Cleared) => true,
-        (Answer::NoMore, Answer::NoMore) => true,
-        (Answer::Yes, Answer::Yes) => true,
-        (Answer::No, Answer::No) => true,
-        (Answer::Nothing, Answer::Nothing) => true,
-        (Answer::Written, Answer::Written) => true,
-        (Answer::NoTable, Answer::NoTable) => true,
-        (Answer::Full, Answer::Full) => true,
+        (Ok(x), Ok(y)) => x.agrees(y, bytes),
+        (Err(x), Err(y)) => x == y,
         _ => false,
     }
 }

@@ -1,15 +1,15 @@
 // One script over both stores: every ask with the answer of the list and of the buckets, then how often random answers agree.
 #![tactic(auto)]
 
-use crate::ask::{Answer, agree, reply};
+use crate::ask::{Reply, agree, put_to};
 use crate::random::Random;
 use crate::script::{AB, AB_MADE, FIXED, MADE, SCRIPT, TEXTS};
-use crate::show::{show_answer, show_ask};
-use buckets::{BucketStore, UNLINKED, UNUSED};
-use list::ListStore;
+use crate::show::Shown;
+use buckets::{BucketStore, Chain, Chained};
+use list::{ListStore, Pair};
 use std::io;
 use store::Store;
-use store::capacity::{Capacity, TooLarge};
+use store::capacity::Capacity;
 use store::key::Key;
 use store::laws::write_then_read;
 use store::value::{Location, Value};
@@ -20,25 +20,22 @@ mod random;
 mod script;
 mod show;
 
-const KEY: Key = Key {
-    location: Location(0),
-    value: Value::Int(0),
-};
-
 fn run_script<L: Store, B: Store>(
     rt: &HostRuntime,
     list: &mut L,
     buckets: &mut B,
     bytes: Bytes<'_, '_, '_>,
 ) -> io::Result<()> {
-    for i in 0..SCRIPT.len() {
-        let ask = SCRIPT[i];
-        show_ask(rt, ask, bytes)?;
-        print!(rt; ": ")?;
-        show_answer(rt, reply(list, ask, bytes), bytes)?;
-        print!(rt; " | ")?;
-        show_answer(rt, reply(buckets, ask, bytes), bytes)?;
-        println!(rt)?;
+    for ask in SCRIPT {
+        let by_list = Shown {
+            item: put_to(list, ask, bytes),
+            bytes,
+        };
+        let by_buckets = Shown {
+            item: put_to(buckets, ask, bytes),
+            bytes,
+        };
+        println!(rt; "{}: {by_list} | {by_buckets}", Shown { item: ask, bytes })?;
     }
     Ok(())
 }
@@ -47,27 +44,23 @@ fn run_script<L: Store, B: Store>(
 fn count_agreed<L: Store, B: Store>(
     list: &mut L,
     buckets: &mut B,
-    asks: u32,
+    asks: usize,
     bytes: Bytes<'_, '_, '_>,
-) -> u32 {
-    let mut random = Random::new(7);
-    let mut agreed: u32 = 0;
-    for _ in 0..asks {
-        let ask = random.draw();
-        let a = reply(list, ask, bytes);
-        let b = reply(buckets, ask, bytes);
-        if agree(a, b, bytes) {
-            agreed = agreed.saturating_add(1);
-        }
-    }
-    agreed
+) -> usize {
+    Random::new(7)
+        .take(asks)
+        .filter(|ask| agree(
+            put_to(list, *ask, bytes),
+            put_to(buckets, *ask, bytes),
+            bytes,
+        ))
+        .count()
 }
 
 fn show_capacity(rt: &HostRuntime, tables: u16, pairs: u16) -> io::Result<()> {
     match Capacity::new(tables, pairs) {
         Ok(_) => println!(rt; "{tables} tables, {pairs} pairs: a capacity"),
-        Err(TooLarge::Tables) => println!(rt; "{tables} tables, {pairs} pairs: too many tables"),
-        Err(TooLarge::Pairs) => println!(rt; "{tables} tables, {pairs} pairs: too many pairs"),
+        Err(too_large) => println!(rt; "{tables} tables, {pairs} pairs: {too_large}"),
     }
 }
 
@@ -79,38 +72,47 @@ fn show_written<S: Store>(
     bytes: Bytes<'_, '_, '_>,
 ) -> io::Result<()> {
     print!(rt; "{name} writes \"ab\" := 12 and reads it: ")?;
-    match write_then_read(store, Location(0), AB, Value::Int(12), AB_MADE, bytes) {
-        Ok(Some(value)) => show_answer(rt, Answer::Found(value), bytes)?,
-        Ok(None) => show_answer(rt, Answer::Nothing, bytes)?,
-        Err(_) => print!(rt; "refused")?,
+    let key = Key {
+        location: Location(0),
+        value: AB,
+    };
+    match write_then_read(store, key, Value::Int(12), AB_MADE, bytes) {
+        Ok(found) => println!(rt;
+            "{}",
+            Shown {
+                item: Reply::Found(found),
+                bytes
+            }
+        ),
+        Err(_) => println!(rt; "refused"),
     }
-    println!(rt)
 }
 
-fn main(rt: HostRuntime) -> io::Result<()> {
+fn main(rt: HostRuntime) -> anyhow::Result<()> {
     let bytes = Bytes {
         fixed: FIXED,
         texts: TEXTS,
         made: MADE,
     };
-    let mut keys = [KEY; 40];
-    let mut values = [Value::Int(0); 40];
-    let mut entries = [UNUSED; 40];
-    let mut chains = [UNLINKED; 5];
-    if let Ok(small) = Capacity::new(2, 3) {
-        let mut list = ListStore::new(&mut keys, &mut values, small);
-        let mut buckets = BucketStore::new(&mut entries, &mut chains, small);
-        run_script(&rt, &mut list, &mut buckets, bytes)?;
-        show_written(&rt, "list", &mut list, bytes)?;
-        show_written(&rt, "buckets", &mut buckets, bytes)?;
-    }
-    if let Ok(large) = Capacity::new(4, 16384) {
-        let mut list = ListStore::new(&mut keys, &mut values, large);
-        let mut buckets = BucketStore::new(&mut entries, &mut chains, large);
-        let agreed = count_agreed(&mut list, &mut buckets, 5000, bytes);
-        println!(rt; "random asks: {agreed} of 5000 agree")?;
-    }
+    let mut pairs = [Pair::default(); 40];
+    let mut entries = [Chained::default(); 40];
+    let mut chains = [Chain::default(); 5];
+
+    let small = Capacity::new(2, 3)?;
+    let mut list = ListStore::new(&mut pairs, small);
+    let mut buckets = BucketStore::new(&mut entries, &mut chains, small);
+    run_script(&rt, &mut list, &mut buckets, bytes)?;
+    show_written(&rt, "list", &mut list, bytes)?;
+    show_written(&rt, "buckets", &mut buckets, bytes)?;
+
+    let large = Capacity::new(4, 16384)?;
+    let mut list = ListStore::new(&mut pairs, large);
+    let mut buckets = BucketStore::new(&mut entries, &mut chains, large);
+    let agreed = count_agreed(&mut list, &mut buckets, 5000, bytes);
+    println!(rt; "random asks: {agreed} of 5000 agree")?;
+
     show_capacity(&rt, 4096, 16384)?;
     show_capacity(&rt, 4097, 16384)?;
-    show_capacity(&rt, 4096, 16385)
+    show_capacity(&rt, 4096, 16385)?;
+    Ok(())
 }

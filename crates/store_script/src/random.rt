@@ -1,5 +1,6 @@
 // Pseudo-random asks.
 use crate::ask::Ask;
+use store::key::Key;
 use store::value::{Identifier, Location, Value};
 use text::span::{Space, Span};
 
@@ -17,7 +18,7 @@ impl Random {
     fn below(&mut self, end: u16) -> u16 {
         self.state = self.state.wrapping_mul(1664525).wrapping_add(1013904223);
         let high = (self.state >> 16) as u16;
-        if end == 0 { 0 } else { high % end }
+        high.checked_rem(end).unwrap_or(0)
     }
 
     fn string(&mut self) -> Span {
@@ -39,17 +40,23 @@ impl Random {
             _ => Value::Loc(Location(self.below(3))),
         }
     }
+}
 
-    pub fn draw(&mut self) -> Ask {
+// It never ends.
+impl Iterator for Random {
+    type Item = Ask;
+
+    fn next(&mut self) -> Option<Ask> {
         let kind = self.below(256);
-        let table = Location(self.below(6));
-        let key = self.value();
-        match kind {
+        let location = Location(self.below(6));
+        let value = self.value();
+        let key = Key { location, value };
+        Some(match kind {
             0 => Ask::Clear,
             1..=15 => Ask::Make,
-            16..=55 => Ask::Has(table, key),
-            56..=135 => Ask::Read(table, key),
-            _ => Ask::Write(table, key, self.value()),
-        }
+            16..=55 => Ask::Has(key),
+            56..=135 => Ask::Read(key),
+            _ => Ask::Write(key, self.value()),
+        })
     }
 }

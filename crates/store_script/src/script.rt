@@ -1,5 +1,6 @@
 // A script that meets every refusal at its edge: two tables, three pairs.
 use crate::ask::Ask;
+use store::key::Key;
 use store::value::{Identifier, Location, Value};
 use text::span::{Space, Span};
 
@@ -49,39 +50,48 @@ const STRING_1_MADE: Value = Value::Str(Span {
     len: 1,
 });
 
+macro_rules! key {
+    ($location:expr, $value:expr) => {
+        Key {
+            location: $location,
+            value: $value,
+        }
+    };
+}
+
 pub const SCRIPT: [Ask; 34] = [
-    Ask::Has(ZERO, AB),
-    Ask::Read(ZERO, AB),
-    Ask::Write(ZERO, AB, Value::Int(7)),
+    Ask::Has(key!(ZERO, AB)),
+    Ask::Read(key!(ZERO, AB)),
+    Ask::Write(key!(ZERO, AB), Value::Int(7)),
     Ask::Make,
     Ask::Make,
     Ask::Make,
-    Ask::Has(TWO, AB),
-    Ask::Has(ONE, AB),
-    Ask::Read(ZERO, AB),
-    Ask::Write(ZERO, AB, Value::Int(7)),
-    Ask::Read(ZERO, AB_IN_TEXTS),
-    Ask::Has(ZERO, AB_MADE),
-    Ask::Write(ZERO, AB_MADE, Value::Int(8)),
-    Ask::Read(ZERO, AB),
-    Ask::Write(ZERO, INT_1, Value::Int(-1)),
-    Ask::Read(ZERO, STRING_1),
-    Ask::Write(ZERO, STRING_1, AB),
-    Ask::Read(ZERO, INT_1),
-    Ask::Read(ZERO, STRING_1_MADE),
-    Ask::Write(ONE, AB, Value::Int(9)),
-    Ask::Has(ONE, AB),
-    Ask::Write(ZERO, AB, Value::Int(10)),
-    Ask::Read(ZERO, AB_MADE),
-    Ask::Write(TWO, AB, Value::Int(11)),
-    Ask::Read(TWO, AB),
+    Ask::Has(key!(TWO, AB)),
+    Ask::Has(key!(ONE, AB)),
+    Ask::Read(key!(ZERO, AB)),
+    Ask::Write(key!(ZERO, AB), Value::Int(7)),
+    Ask::Read(key!(ZERO, AB_IN_TEXTS)),
+    Ask::Has(key!(ZERO, AB_MADE)),
+    Ask::Write(key!(ZERO, AB_MADE), Value::Int(8)),
+    Ask::Read(key!(ZERO, AB)),
+    Ask::Write(key!(ZERO, INT_1), Value::Int(-1)),
+    Ask::Read(key!(ZERO, STRING_1)),
+    Ask::Write(key!(ZERO, STRING_1), AB),
+    Ask::Read(key!(ZERO, INT_1)),
+    Ask::Read(key!(ZERO, STRING_1_MADE)),
+    Ask::Write(key!(ONE, AB), Value::Int(9)),
+    Ask::Has(key!(ONE, AB)),
+    Ask::Write(key!(ZERO, AB), Value::Int(10)),
+    Ask::Read(key!(ZERO, AB_MADE)),
+    Ask::Write(key!(TWO, AB), Value::Int(11)),
+    Ask::Read(key!(TWO, AB)),
     Ask::Clear,
-    Ask::Has(ZERO, AB),
+    Ask::Has(key!(ZERO, AB)),
     Ask::Make,
-    Ask::Read(ZERO, AB),
-    Ask::Write(ZERO, Value::Loc(ONE), Value::Ident(Identifier(1))),
-    Ask::Read(ZERO, Value::Loc(ONE)),
-    Ask::Read(ZERO, Value::Ident(Identifier(1))),
-    Ask::Read(ZERO, INT_1),
+    Ask::Read(key!(ZERO, AB)),
+    Ask::Write(key!(ZERO, Value::Loc(ONE)), Value::Ident(Identifier(1))),
+    Ask::Read(key!(ZERO, Value::Loc(ONE))),
+    Ask::Read(key!(ZERO, Value::Ident(Identifier(1)))),
+    Ask::Read(key!(ZERO, INT_1)),
     Ask::Make,
 ];

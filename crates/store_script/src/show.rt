@@ -1,63 +1,90 @@
-// Asks and answers in words.
-use crate::ask::{Answer, Ask};
-use std::io;
-use store::value::{Location, Value};
+// Asks and answers in words: each beside the bytes that its strings lie in.
+use crate::ask::{Ask, Reply};
+use std::fmt;
+use store::Refusal;
+use store::key::Key;
+use store::value::Value;
 use text::span::{Bytes, Span, byte_at};
 
-fn show_string(rt: &HostRuntime, string: Span, bytes: Bytes<'_, '_, '_>) -> io::Result<()> {
-    print!(rt; "\"")?;
-    for i in 0..string.len as usize {
-        let byte = byte_at(bytes, string.space, string.start as usize + i);
-        print!(rt; "{}", byte as char)?;
+#[derive(Clone, Copy)]
+pub struct Shown<'f, 't, 'm, T> {
+    pub item: T,
+    pub bytes: Bytes<'f, 't, 'm>,
+}
+
+impl fmt::Display for Shown<'_, '_, '_, Span> {
+    fn fmt<W: fmt::Write>(&self, f: &mut fmt::Formatter<W>) -> fmt::Result {
+        write!(f, "\"")?;
+        for i in 0..self.item.len as usize {
+            let byte = byte_at(self.bytes, self.item.space, self.item.start as usize + i);
+            write!(f, "{}", byte as char)?;
+        }
+        write!(f, "\"")
     }
-    print!(rt; "\"")
 }
 
-fn show_value(rt: &HostRuntime, value: Value, bytes: Bytes<'_, '_, '_>) -> io::Result<()> {
-    match value {
-        Value::Int(n) => print!(rt; "{n}"),
-        Value::Str(s) => show_string(rt, s, bytes),
-        Value::Ident(i) => print!(rt; "identifier {}", i.0),
-        Value::Loc(l) => print!(rt; "location {}", l.0),
-    }
-}
-
-fn show_key(
-    rt: &HostRuntime,
-    verb: &str,
-    table: Location,
-    key: Value,
-    bytes: Bytes<'_, '_, '_>,
-) -> io::Result<()> {
-    print!(rt; "{verb} {} ", table.0)?;
-    show_value(rt, key, bytes)
-}
-
-pub fn show_ask(rt: &HostRuntime, ask: Ask, bytes: Bytes<'_, '_, '_>) -> io::Result<()> {
-    match ask {
-        Ask::Clear => print!(rt; "clear"),
-        Ask::Make => print!(rt; "make"),
-        Ask::Has(table, key) => show_key(rt, "has", table, key, bytes),
-        Ask::Read(table, key) => show_key(rt, "read", table, key, bytes),
-        Ask::Write(table, key, value) => {
-            show_key(rt, "write", table, key, bytes)?;
-            print!(rt; " := ")?;
-            show_value(rt, value, bytes)
+impl fmt::Display for Shown<'_, '_, '_, Value> {
+    fn fmt<W: fmt::Write>(&self, f: &mut fmt::Formatter<W>) -> fmt::Result {
+        match self.item {
+            Value::Int(n) => write!(f, "{n}"),
+            Value::Str(item) => {
+                let bytes = self.bytes;
+                write!(f, "{}", Shown { item, bytes })
+            }
+            Value::Ident(i) => write!(f, "identifier {}", i.0),
+            Value::Loc(l) => write!(f, "location {}", l.0),
         }
     }
 }
 
-pub fn show_answer(rt: &HostRuntime, answer: Answer, bytes: Bytes<'_, '_, '_>) -> io::Result<()> {
-    match answer {
-        Answer::Cleared => print!(rt; "cleared"),
-        Answer::Made(location) => print!(rt; "table {}", location.0),
-        Answer::NoMore => print!(rt; "no more tables"),
-        Answer::Yes => print!(rt; "yes"),
-        Answer::No => print!(rt; "no"),
-        Answer::Found(value) => show_value(rt, value, bytes),
-        Answer::Nothing => print!(rt; "nothing"),
-        Answer::Written => print!(rt; "written"),
-        Answer::NoTable => print!(rt; "no such table"),
-        Answer::Full => print!(rt; "full"),
+impl fmt::Display for Shown<'_, '_, '_, Key> {
+    fn fmt<W: fmt::Write>(&self, f: &mut fmt::Formatter<W>) -> fmt::Result {
+        let Key { location, value } = self.item;
+        let bytes = self.bytes;
+        write!(f, "{} {}", location.0, Shown { item: value, bytes })
+    }
+}
+
+impl fmt::Display for Shown<'_, '_, '_, Ask> {
+    fn fmt<W: fmt::Write>(&self, f: &mut fmt::Formatter<W>) -> fmt::Result {
+        let bytes = self.bytes;
+        match self.item {
+            Ask::Clear => write!(f, "clear"),
+            Ask::Make => write!(f, "make"),
+            Ask::Has(item) => write!(f, "has {}", Shown { item, bytes }),
+            Ask::Read(item) => write!(f, "read {}", Shown { item, bytes }),
+            Ask::Write(key, value) => {
+                let key = Shown { item: key, bytes };
+                let value = Shown { item: value, bytes };
+                write!(f, "write {key} := {value}")
+            }
+        }
+    }
+}
+
+impl fmt::Display for Shown<'_, '_, '_, Reply> {
+    fn fmt<W: fmt::Write>(&self, f: &mut fmt::Formatter<W>) -> fmt::Result {
+        let bytes = self.bytes;
+        match self.item {
+            Reply::Cleared => write!(f, "cleared"),
+            Reply::Made(Some(location)) => write!(f, "table {}", location.0),
+            Reply::Made(None) => write!(f, "no more tables"),
+            Reply::Has(true) => write!(f, "yes"),
+            Reply::Has(false) => write!(f, "no"),
+            Reply::Found(Some(item)) => write!(f, "{}", Shown { item, bytes }),
+            Reply::Found(None) => write!(f, "nothing"),
+            Reply::Written => write!(f, "written"),
+        }
+    }
+}
+
+impl fmt::Display for Shown<'_, '_, '_, Result<Reply, Refusal>> {
+    fn fmt<W: fmt::Write>(&self, f: &mut fmt::Formatter<W>) -> fmt::Result {
+        let bytes = self.bytes;
+        match self.item {
+            Ok(item) => write!(f, "{}", Shown { item, bytes }),
+            Err(Refusal::NoTable) => write!(f, "no such table"),
+            Err(Refusal::Full) => write!(f, "full"),
+        }
     }
 }
