@@ -124,16 +124,6 @@ impl<'a, T: Copy> Stack<'a, T> {
         self.items[i] = x;
     }
 
-    // Leaves no item; their places in the slice keep them until others are put there.
-    pub fn clear(&mut self)
-        ensures lender { self.new.items.ghost_name ≡ self.old.items.ghost_name }
-        ensures room { room self.new ≡ room self.old }
-        ensures held { held self.new ≡ [] }
-        ensures beyond { beyond self.new ≡ held self.old ++ beyond self.old }
-    {
-        self.len = 0;
-    }
-
     // Puts another item in place of the newest; an empty stack hands it back.
     pub fn set_top(&mut self, x: T) -> Result<(), T>
         ensures lender { self.new.items.ghost_name ≡ self.old.items.ghost_name }
