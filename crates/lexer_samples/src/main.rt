@@ -1,8 +1,10 @@
 // Texts beside their tokens: a line for each text with its tokens, or the place where it is refused.
 #![tactic(auto)]
 
-use lexer::token::Lexed;
-use lexer::{check_text, next_token};
+use display::bytes::{Rule, Shown};
+use display::refused::Refused;
+use lexer::check_text;
+use lexer::tokens::Tokens;
 
 const SAMPLES: [&'static [u8]; 64] = [
     // a `-` is a sign where it begins a token and a digit follows
@@ -78,51 +80,34 @@ const SAMPLES: [&'static [u8]; 64] = [
     b"Class IF nil?",
 ];
 
-// A byte as it is, or its code where it does not show.
-fn print_bytes(rt: &HostRuntime, bytes: &[u8]) -> anyhow::Result<()> {
-    for b in bytes {
-        match *b {
-            b' '..=b'~' => print!(rt; "{}", *b as char)?,
-            other => print!(rt; "\\x{other:02x}")?,
-        }
+fn shown(bytes: &[u8]) -> Shown<'_> {
+    Shown {
+        rule: Rule::Visible,
+        bytes,
     }
-    Ok(())
-}
-
-fn print_token(rt: &HostRuntime, lexed: Lexed<'_>, bytes: &[u8]) -> anyhow::Result<()> {
-    let from = lexed.from;
-    let kind = lexed.token.kind();
-    print!(rt; "  {from}:{kind}:")?;
-    print_bytes(rt, bytes)
 }
 
 fn print_tokens(rt: &HostRuntime, text: &[u8]) -> anyhow::Result<()> {
-    let mut at = 0;
-    while let Ok(Some(lexed)) = next_token(text, at) {
-        print_token(rt, lexed, &text[lexed.from..lexed.to])?;
-        at = lexed.to;
+    for lexed in Tokens::of(text).map_while(Result::ok) {
+        let bytes = text.get(lexed.from..lexed.to).unwrap_or(b"");
+        print!(rt; "  {}:{}:{}", lexed.from, lexed.token.kind(), shown(bytes))?;
     }
     Ok(())
 }
 
 fn print_sample(rt: &HostRuntime, text: &[u8]) -> anyhow::Result<()> {
-    print!(rt; "[")?;
-    print_bytes(rt, text)?;
-    print!(rt; "]")?;
+    print!(rt; "[{}]", shown(text))?;
     match check_text(text) {
         Ok(()) => print_tokens(rt, text)?,
-        Err(stray) => {
-            let place = stray.0;
-            print!(rt; "  no 5 at {place}")?;
-        }
+        Err(stray) => print!(rt; "  {}", Refused::from(stray))?,
     }
     println!(rt; "")?;
     Ok(())
 }
 
 fn main(rt: HostRuntime) -> anyhow::Result<()> {
-    for i in 0..64 {
-        print_sample(&rt, SAMPLES[i])?;
+    for text in SAMPLES {
+        print_sample(&rt, text)?;
     }
     Ok(())
 }

@@ -1,5 +1,5 @@
 // The nodes of trees, in a table: parts stand before the whole.
-ghost use Rattle.std.specs.Prelude.{◌≡◌, ◌+◌, ◌-◌, ◌^◌, ◌<◌, [], ◌∷◌, take, slice_set};
+ghost use Rattle.std.specs.Prelude.{◌≡◌, ◌+◌, ◌-◌, ◌^◌, ◌<◌, ◌≤◌, [], ◌∷◌, length, take, slice_set};
 ghost use Rattle.nodes.specs.Methods.{no_span};
 
 use text::span::{Space, Span};
@@ -51,6 +51,7 @@ impl Arguments {
     // Where the first four stand, or all if there are fewer.
     pub fn kept(&self) -> &[u16]
         ensures the_first { result.now ≡ take self.now.count self.now.roots }
+        ensures at_most_four { length result.now ≤ 4 }
     {
         &self.roots[..self.count.min(ARGUMENTS) as usize]
     }
