@@ -52,6 +52,28 @@ pub struct Shown<'a> {
     pub bytes: &'a [u8],
 }
 
+impl<'a> Shown<'a> {
+    pub fn visible(bytes: &'a [u8]) -> Shown<'a>
+        ensures by_that_rule { result.rule ≡ Rule.Visible }
+        ensures its_bytes { result.bytes.now ≡ bytes.now }
+    {
+        Shown {
+            rule: Rule::Visible,
+            bytes,
+        }
+    }
+
+    pub fn reversible(bytes: &'a [u8]) -> Shown<'a>
+        ensures by_that_rule { result.rule ≡ Rule.Reversible }
+        ensures its_bytes { result.bytes.now ≡ bytes.now }
+    {
+        Shown {
+            rule: Rule::Reversible,
+            bytes,
+        }
+    }
+}
+
 impl fmt::Display for Shown<'_> {
     ghost output = { λ s. Some (flat_map (shown s.rule) s.bytes.now) };
 

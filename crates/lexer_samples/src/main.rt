@@ -1,10 +1,11 @@
 // Texts beside their tokens: a line for each text with its tokens, or the place where it is refused.
 #![tactic(auto)]
 
-use display::bytes::{Rule, Shown};
+use display::bytes::Shown;
 use display::refused::Refused;
 use lexer::check_text;
 use lexer::tokens::Tokens;
+use std::fmt;
 
 const SAMPLES: [&'static [u8]; 64] = [
     // a `-` is a sign where it begins a token and a digit follows
@@ -80,34 +81,33 @@ const SAMPLES: [&'static [u8]; 64] = [
     b"Class IF nil?",
 ];
 
-fn shown(bytes: &[u8]) -> Shown<'_> {
-    Shown {
-        rule: Rule::Visible,
-        bytes,
-    }
-}
+// A text, and its tokens or the place where it is refused.
+struct Sample<'a>(&'a [u8]);
 
-fn print_tokens(rt: &HostRuntime, text: &[u8]) -> anyhow::Result<()> {
-    for lexed in Tokens::of(text).map_while(Result::ok) {
-        let bytes = text.get(lexed.from..lexed.to).unwrap_or(b"");
-        print!(rt; "  {}:{}:{}", lexed.from, lexed.token.kind(), shown(bytes))?;
+impl fmt::Display for Sample<'_> {
+    fn fmt<W: fmt::Write>(&self, f: &mut fmt::Formatter<W>) -> fmt::Result {
+        let text = self.0;
+        write!(f, "[{}]", Shown::visible(text))?;
+        if let Err(stray) = check_text(text) {
+            return write!(f, "  {}", Refused::from(stray));
+        }
+        for lexed in Tokens::of(text).map_while(Result::ok) {
+            let bytes = text.get(lexed.from..lexed.to).unwrap_or(b"");
+            write!(
+                f,
+                "  {}:{}:{}",
+                lexed.from,
+                lexed.token.kind(),
+                Shown::visible(bytes)
+            )?;
+        }
+        Ok(())
     }
-    Ok(())
-}
-
-fn print_sample(rt: &HostRuntime, text: &[u8]) -> anyhow::Result<()> {
-    print!(rt; "[{}]", shown(text))?;
-    match check_text(text) {
-        Ok(()) => print_tokens(rt, text)?,
-        Err(stray) => print!(rt; "  {}", Refused::from(stray))?,
-    }
-    println!(rt; "")?;
-    Ok(())
 }
 
 fn main(rt: HostRuntime) -> anyhow::Result<()> {
     for text in SAMPLES {
-        print_sample(&rt, text)?;
+        println!(rt; "{}", Sample(text))?;
     }
     Ok(())
 }

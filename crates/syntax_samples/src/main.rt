@@ -1,28 +1,19 @@
 // Texts beside their answers: a line for each text with its nodes, or the refusal.
 #![tactic(auto)]
 
-use display::bytes::{Rule, Shown};
+use display::bytes::Shown;
 use display::forms::Line;
 use display::refused::Refused;
+use display::tables::{ROOM, first};
 use nodes::node::{Method, Node};
-use std::str;
+use std::{fmt, str};
 use syntax::class::judge_class;
 use syntax::rule::judge_rule;
 
 mod samples;
 
-// A text within its limit has fewer nodes, and fewer methods, than bytes.
-const ROOM: usize = 4096;
-
 // More nodes or methods than this are only counted.
-const SHOWN: u16 = 12;
-
-fn shown(bytes: &[u8]) -> Shown<'_> {
-    Shown {
-        rule: Rule::Visible,
-        bytes,
-    }
-}
+const SHOWN: usize = 12;
 
 // What stands before the first such byte, and what behind it.
 fn split_once(bytes: &[u8], mark: u8) -> Option<(&[u8], &[u8])> {
@@ -51,40 +42,49 @@ fn expand(rt: &HostRuntime, sample: &[u8]) -> anyhow::Result<Vec<u8>> {
     Ok(text)
 }
 
-fn print_nodes(rt: &HostRuntime, nodes: &[Node], count: u16) -> anyhow::Result<()> {
-    print!(rt; "  nodes {count}")?;
-    if count <= SHOWN {
-        for (i, node) in nodes.iter().take(count as usize).enumerate() {
-            let line = Line {
-                form: node.form,
-                word: None,
-                between: ' ',
-            };
-            print!(rt; "  {i}@{}:{line}", node.place)?;
+// How many nodes there are, and each of a few.
+struct Nodes<'a>(&'a [Node]);
+
+impl fmt::Display for Nodes<'_> {
+    fn fmt<W: fmt::Write>(&self, f: &mut fmt::Formatter<W>) -> fmt::Result {
+        write!(f, "  nodes {}", self.0.len())?;
+        if self.0.len() <= SHOWN {
+            for (i, node) in self.0.iter().enumerate() {
+                let line = Line {
+                    form: node.form,
+                    word: None,
+                    between: ' ',
+                };
+                write!(f, "  {i}@{}:{line}", node.place)?;
+            }
         }
+        Ok(())
     }
-    Ok(())
 }
 
-fn print_methods(rt: &HostRuntime, methods: &[Method], count: u16) -> anyhow::Result<()> {
-    print!(rt; "  methods {count}")?;
-    if count <= SHOWN {
-        for (i, method) in methods.iter().take(count as usize).enumerate() {
-            print!(rt; "  {i}:{} of {}", method.root, method.parameters.count)?;
+// How many methods there are, and each of a few.
+struct Methods<'a>(&'a [Method]);
+
+impl fmt::Display for Methods<'_> {
+    fn fmt<W: fmt::Write>(&self, f: &mut fmt::Formatter<W>) -> fmt::Result {
+        write!(f, "  methods {}", self.0.len())?;
+        if self.0.len() <= SHOWN {
+            for (i, method) in self.0.iter().enumerate() {
+                write!(f, "  {i}:{} of {}", method.root, method.parameters.count)?;
+            }
         }
+        Ok(())
     }
-    Ok(())
 }
 
 fn print_rule(rt: &HostRuntime, sample: &[u8]) -> anyhow::Result<()> {
     let text = expand(rt, sample)?;
     let mut nodes = vec![in rt.alloc(); Node::default(); ROOM]?;
-    print!(rt; "rule [{}]", shown(sample))?;
+    print!(rt; "rule [{}]", Shown::visible(sample))?;
     match judge_rule(&text, 0, &mut nodes) {
-        Ok(rule) => print_nodes(rt, &nodes, rule.nodes)?,
-        Err(refusal) => print!(rt; "  {}", Refused::from(refusal))?,
+        Ok(rule) => println!(rt; "{}", Nodes(first(&nodes, rule.nodes)))?,
+        Err(refusal) => println!(rt; "  {}", Refused::from(refusal))?,
     }
-    println!(rt; "")?;
     Ok(())
 }
 
@@ -92,15 +92,15 @@ fn print_class(rt: &HostRuntime, sample: &[u8]) -> anyhow::Result<()> {
     let text = expand(rt, sample)?;
     let mut nodes = vec![in rt.alloc(); Node::default(); ROOM]?;
     let mut methods = vec![in rt.alloc(); Method::default(); ROOM]?;
-    print!(rt; "class [{}]", shown(sample))?;
+    print!(rt; "class [{}]", Shown::visible(sample))?;
     match judge_class(&text, 0, &mut nodes, &mut methods) {
         Ok(class) => {
-            print_nodes(rt, &nodes, class.nodes)?;
-            print_methods(rt, &methods, class.methods)?;
+            let nodes = Nodes(first(&nodes, class.nodes));
+            let methods = Methods(first(&methods, class.methods));
+            println!(rt; "{nodes}{methods}")?;
         }
-        Err(refusal) => print!(rt; "  {}", Refused::from(refusal))?,
+        Err(refusal) => println!(rt; "  {}", Refused::from(refusal))?,
     }
-    println!(rt; "")?;
     Ok(())
 }
 

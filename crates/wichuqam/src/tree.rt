@@ -1,29 +1,23 @@
 // The task `tree`: the tree of a rule or a class, one line a node, or its refusal.
 use crate::print_refused;
-use display::bytes::{Rule, Shown};
+use display::bytes::Shown;
 use display::forms::{Line, word};
+use display::tables::{ROOM, first};
 use nodes::node::{Method, Node};
 use std::io::Read;
 use syntax::class::judge_class;
 use syntax::rule::judge_rule;
 use text::span::Span;
 
-// A text within its limit has fewer nodes, and fewer methods, than bytes.
-const ROOM: usize = 4096;
-
 // The bytes of the text that the span has.
 fn shown(text: &[u8], span: Span) -> Shown<'_> {
     let from = span.start as usize;
-    let bytes = text.get(from..from + span.len as usize).unwrap_or(b"");
-    Shown {
-        rule: Rule::Reversible,
-        bytes,
-    }
+    Shown::reversible(text.get(from..from + span.len as usize).unwrap_or(b""))
 }
 
 // Number, place, and the form with its value or word and its parts.
-fn print_nodes(rt: &HostRuntime, text: &[u8], nodes: &[Node], count: u16) -> anyhow::Result<()> {
-    for (i, node) in nodes.iter().take(count as usize).enumerate() {
+fn print_nodes(rt: &HostRuntime, text: &[u8], nodes: &[Node]) -> anyhow::Result<()> {
+    for (i, node) in nodes.iter().enumerate() {
         let line = Line {
             form: node.form,
             word: word(node.form).map(|span| shown(text, span)),
@@ -47,7 +41,7 @@ fn print_method(rt: &HostRuntime, text: &[u8], method: &Method) -> anyhow::Resul
 fn list_rule(rt: &HostRuntime, text: &[u8]) -> anyhow::Result<()> {
     let mut nodes = vec![in rt.alloc(); Node::default(); ROOM]?;
     match judge_rule(text, 0, &mut nodes) {
-        Ok(rule) => print_nodes(rt, text, &nodes, rule.nodes),
+        Ok(rule) => print_nodes(rt, text, first(&nodes, rule.nodes)),
         Err(refusal) => print_refused(rt, refusal.into()),
     }
 }
@@ -57,8 +51,8 @@ fn list_class(rt: &HostRuntime, text: &[u8]) -> anyhow::Result<()> {
     let mut methods = vec![in rt.alloc(); Method::default(); ROOM]?;
     match judge_class(text, 0, &mut nodes, &mut methods) {
         Ok(class) => {
-            print_nodes(rt, text, &nodes, class.nodes)?;
-            for method in methods.iter().take(class.methods as usize) {
+            print_nodes(rt, text, first(&nodes, class.nodes))?;
+            for method in first(&methods, class.methods) {
                 print_method(rt, text, method)?;
             }
             println!(rt;
