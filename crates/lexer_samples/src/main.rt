@@ -82,6 +82,7 @@ const SAMPLES: [&'static [u8]; 64] = [
 ];
 
 // A text, and its tokens or the place where it is refused.
+#[derive(Clone, Copy)]
 struct Sample<'a>(&'a [u8]);
 
 impl fmt::Display for Sample<'_> {

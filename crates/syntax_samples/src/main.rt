@@ -43,6 +43,7 @@ fn expand(rt: &HostRuntime, sample: &[u8]) -> anyhow::Result<Vec<u8>> {
 }
 
 // How many nodes there are, and each of a few.
+#[derive(Clone, Copy)]
 struct Nodes<'a>(&'a [Node]);
 
 impl fmt::Display for Nodes<'_> {
@@ -63,6 +64,7 @@ impl fmt::Display for Nodes<'_> {
 }
 
 // How many methods there are, and each of a few.
+#[derive(Clone, Copy)]
 struct Methods<'a>(&'a [Method]);
 
 impl fmt::Display for Methods<'_> {
