@@ -27,36 +27,41 @@ pub enum Run {
     Quoted,
 }
 
-pub fn kind_of(b: u8) -> ByteKind
-    ensures the_table { result ≡ kind_of b }
-{
-    match b {
-        b' ' | b'\t' | b'\r' | b'\n' => ByteKind::Blank,
-        b'a'..=b'z' | b'A'..=b'Z' | b'+' | b'*' | b'/' | b'_' | b'!' | b'?' =>
-            ByteKind::Identifying,
-        b'-' => ByteKind::Minus,
-        b'0'..=b'9' => ByteKind::Digit,
-        b'@' => ByteKind::At,
-        b'"' => ByteKind::Quote,
-        b'.' => ByteKind::Sign(Symbol::Dot),
-        b',' => ByteKind::Sign(Symbol::Comma),
-        b';' => ByteKind::Sign(Symbol::Semicolon),
-        b'(' => ByteKind::Sign(Symbol::OpenParen),
-        b')' => ByteKind::Sign(Symbol::CloseParen),
-        b'=' => ByteKind::Sign(Symbol::Equals),
-        b'<' => ByteKind::Sign(Symbol::Less),
-        _ => ByteKind::Stray,
+impl From<u8> for ByteKind {
+    ghost from_gives = { λ b kind. kind ≡ kind_of b };
+
+    fn from(b: u8) -> ByteKind {
+        match b {
+            b' ' | b'\t' | b'\r' | b'\n' => ByteKind::Blank,
+            b'a'..=b'z' | b'A'..=b'Z' | b'+' | b'*' | b'/' | b'_' | b'!' | b'?' =>
+                ByteKind::Identifying,
+            b'-' => ByteKind::Minus,
+            b'0'..=b'9' => ByteKind::Digit,
+            b'@' => ByteKind::At,
+            b'"' => ByteKind::Quote,
+            b'.' => ByteKind::Sign(Symbol::Dot),
+            b',' => ByteKind::Sign(Symbol::Comma),
+            b';' => ByteKind::Sign(Symbol::Semicolon),
+            b'(' => ByteKind::Sign(Symbol::OpenParen),
+            b')' => ByteKind::Sign(Symbol::CloseParen),
+            b'=' => ByteKind::Sign(Symbol::Equals),
+            b'<' => ByteKind::Sign(Symbol::Less),
+            _ => ByteKind::Stray,
+        }
     }
 }
 
-pub fn goes_on(run: Run, b: u8) -> bool
-    ensures the_run { result ≡ goes_on run b }
-{
-    let kind = kind_of(b);
-    match run {
-        Run::Blanks => matches!(kind, ByteKind::Blank),
-        Run::Identifier => matches!(kind, ByteKind::Identifying | ByteKind::Minus),
-        Run::Digits => matches!(kind, ByteKind::Digit),
-        Run::Quoted => !matches!(kind, ByteKind::Quote),
+impl Run {
+    // Does the run go on with this byte?
+    pub fn goes_on(self, b: u8) -> bool
+        ensures the_run { result ≡ goes_on self b }
+    {
+        let kind = ByteKind::from(b);
+        match self {
+            Run::Blanks => matches!(kind, ByteKind::Blank),
+            Run::Identifier => matches!(kind, ByteKind::Identifying | ByteKind::Minus),
+            Run::Digits => matches!(kind, ByteKind::Digit),
+            Run::Quoted => !matches!(kind, ByteKind::Quote),
+        }
     }
 }

@@ -5,7 +5,7 @@ ghost use Rattle.lexer.specs.Keyword.{keyword_of};
 ghost use Rattle.lexer.specs.Token.{terminal};
 ghost use Rattle.lexer.specs.Lexing.{worded, named, word_of, integer_of, minus_of, field_of, string_of, first, placed, lexed, begins};
 
-use crate::byte::{ByteKind, Run, goes_on, kind_of};
+use crate::byte::{ByteKind, Run};
 use crate::keyword_of;
 use crate::token::{Lexed, Stray, Token};
 
@@ -14,7 +14,7 @@ pub fn run_len(rest: &[u8], run: Run) -> usize
     ensures longest { result ≡ length (take_while (goes_on run) rest.now) }
     ensures within { result ≤ length rest.now }
 {
-    rest.iter().take_while(|b| goes_on(run, **b)).count()
+    rest.iter().take_while(|b| run.goes_on(**b)).count()
 }
 
 // An identifier, unless a keyword is written so.
@@ -54,7 +54,7 @@ impl<'a> Start<'a> {
         self.from + 1 + run_len(&self.text[self.from + 1..], run)
     }
 
-    // The identifier or keyword that begins here.
+    // The identifier or keyword that begins here. (A closure for the token would need a longer contract than `word` and `integer` have.)
     fn word(self) -> Lexed<'a>
         ensures longest_word { lexed result ≡ placed self.entry.from (Some (word_of (slice_index self.entry.text.now self.entry.from) (drop (self.entry.from + 1) self.entry.text.now))) }
     {
@@ -83,7 +83,7 @@ impl<'a> Start<'a> {
         ensures integer_before_a_digit { lexed result ≡ placed self.entry.from (Some (minus_of (slice_index self.entry.text.now self.entry.from) (drop (self.entry.from + 1) self.entry.text.now))) }
     {
         let behind = self.text.get(self.from + 1).copied().unwrap_or(0);
-        if goes_on(Run::Digits, behind) {
+        if Run::Digits.goes_on(behind) {
             self.integer()
         } else {
             self.word()
@@ -123,10 +123,11 @@ impl<'a> Start<'a> {
     }
 
     // The token that begins here.
+    #[tactic(auto, using(crate::proofs::Placing::first_by))]
     pub fn token(self) -> Result<Lexed<'a>, Stray>
         ensures by_the_first_byte { begins result ≡ placed self.entry.from (first (drop self.entry.from self.entry.text.now)) }
     {
-        match kind_of(self.text[self.from]) {
+        match ByteKind::from(self.text[self.from]) {
             ByteKind::Identifying => Ok(self.word()),
             ByteKind::Minus => Ok(self.minus()),
             ByteKind::Digit => Ok(self.integer()),
