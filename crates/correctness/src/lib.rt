@@ -10,6 +10,7 @@ ghost use Rattle.correctness.specs.Law.{Law, CodeLaw, TextLaw};
 
 // The steps after which a rule has ended that counts so many, over so many classes and methods that they see.
 // Of bare trees, and of trees that note their places: machine and meaning end alike, with the same output, by then, and the machine is never stuck.
+// (The counts stay single numbers: two calls share two of them, and a struct would only be taken apart again.)
 pub fn step_bound(counted: u32, classes: u8, methods: u16) -> u64
     ensures the_bound { (P : Classes ℕ) → class_count P ≡ classes → pair_count P ≡ methods → result ≡ step_bound P counted }
     ensures rules_stand { Law (Unit {0}) × Law ℕ }
