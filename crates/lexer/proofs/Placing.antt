@@ -84,3 +84,6 @@ module _ (text : List ℕ) (at from : ℕ) (blanks : from ≡ at + length (take_
 
 pub next_past : (text : List ℕ) (at : ℕ) → length text ≤ at → next text at ≡ end
 next_past text at h = next-end text at _ refl (omega arith)
+
+-- what the code cuts out of a text, placed
+pub ruleset cutting = (placed-as, cut, cut-behind, length-worded, length-string, minus-by, named_some, named_none, string-open, string-closed, first_by)

@@ -1,4 +1,6 @@
 // The token that begins at a byte of a text.
+#![tactic(auto, using(crate::proofs::Placing::cutting))]
+
 ghost use Rattle.std.specs.Prelude.{◌≡◌, ◌+◌, ◌<◌, ◌≤◌, length, drop, take_while, is_some, Some, slice_index};
 ghost use Rattle.lexer.specs.Byte.{goes_on};
 ghost use Rattle.lexer.specs.Keyword.{keyword_of};
@@ -123,7 +125,6 @@ impl<'a> Start<'a> {
     }
 
     // The token that begins here.
-    #[tactic(auto, using(crate::proofs::Placing::first_by))]
     pub fn token(self) -> Result<Lexed<'a>, Stray>
         ensures by_the_first_byte { begins result ≡ placed self.entry.from (first (drop self.entry.from self.entry.text.now)) }
     {
