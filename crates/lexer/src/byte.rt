@@ -4,7 +4,7 @@ ghost use Rattle.lexer.specs.Byte.{kind_of, goes_on};
 
 use crate::token::Symbol;
 
-#[derive(Clone, Copy)]
+#[derive(Clone, Copy, Debug, PartialEq, Eq)]
 pub enum ByteKind {
     Blank,
     // letters and + * / _ ! ?
@@ -19,7 +19,7 @@ pub enum ByteKind {
 }
 
 // What goes on byte by byte, as long as it can.
-#[derive(Clone, Copy)]
+#[derive(Clone, Copy, Debug, PartialEq, Eq)]
 pub enum Run {
     Blanks,
     Identifier,

@@ -3,7 +3,7 @@ ghost use Rattle.std.specs.Prelude.{◌≡◌};
 ghost use Rattle.lexer.specs.Keyword.{word};
 ghost use Rattle.lexer.specs.Token.{terminal, kind_name};
 
-#[derive(Clone, Copy, PartialEq, Eq)]
+#[derive(Clone, Copy, Debug, PartialEq, Eq)]
 pub enum Keyword {
     Class,
     Begin,
@@ -58,7 +58,7 @@ impl Keyword {
     }
 }
 
-#[derive(Clone, Copy, PartialEq, Eq)]
+#[derive(Clone, Copy, Debug, PartialEq, Eq)]
 pub enum Symbol {
     Dot,
     Comma,
@@ -70,7 +70,7 @@ pub enum Symbol {
 }
 
 // A token borrows its bytes from the text: a field with its `@`, a string without its quotes.
-#[derive(Clone, Copy)]
+#[derive(Clone, Copy, Debug, PartialEq, Eq)]
 pub enum Token<'a> {
     Identifier(&'a [u8]),
     Integer(&'a [u8]),
@@ -96,7 +96,7 @@ impl<'a> Token<'a> {
 }
 
 // A token with its place: the bytes `from` up to `to` of the text.
-#[derive(Clone, Copy)]
+#[derive(Clone, Copy, Debug, PartialEq, Eq)]
 pub struct Lexed<'a> {
     pub token: Token<'a>,
     pub from: usize,
@@ -104,5 +104,5 @@ pub struct Lexed<'a> {
 }
 
 // The place of a byte that no token has, or of a quote that is never closed.
-#[derive(Clone, Copy)]
+#[derive(Clone, Copy, Debug, PartialEq, Eq)]
 pub struct Stray(pub usize);

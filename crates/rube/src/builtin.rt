@@ -5,7 +5,7 @@ ghost use Rattle.rube.specs.Builtin.{name_of, table, names};
 
 use machine::arith::Op;
 
-#[derive(Clone, Copy)]
+#[derive(Clone, Copy, Debug, PartialEq, Eq)]
 pub enum BuiltinClass {
     Object,
     Str,
@@ -15,7 +15,7 @@ pub enum BuiltinClass {
 }
 
 // What a built-in method does; several pairs of class and method share one.
-#[derive(Clone, Copy)]
+#[derive(Clone, Copy, Debug, PartialEq, Eq)]
 pub enum Operation {
     // is the argument the same value?
     Equal,
@@ -60,7 +60,7 @@ impl Operation {
     }
 }
 
-#[derive(Clone, Copy)]
+#[derive(Clone, Copy, Debug, PartialEq, Eq)]
 pub struct Builtin {
     pub class: BuiltinClass,
     pub parameters: u8,
