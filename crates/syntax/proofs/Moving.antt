@@ -11,12 +11,16 @@ use Rattle.syntax.specs.Parsing.{Moves, MovesArgs, Put, With, Closed}
 abbrev pub Between : List ℕ → ℕ → ℕ → ℕ → Type 0
 Between text q from to = (q ≤ from) × (from < to) × (to ≤ length text)
 
+-- what moves on from q moves on from what lies before
+pub earlier : {text : List ℕ} {p q : ℕ} {xs ys : Table Node} {g : Got} → p ≤ q → Moves text q xs ys g → Moves text p xs ys g
+earlier h m = record { on = omega arith; inside = omega arith; few = omega arith; new = omega arith; root = omega arith }
+
 -- what is to be read next begins behind q
 abbrev pub Behind : List ℕ → ℕ → ℕ → Type 0
 Behind text q to = (q < to) × (to ≤ length text)
 
 module _ {text : List ℕ} {p : ℕ} {xs ys : Table Node} {x : Node} {size : Size} {g : Got} where
-  pub leaf-moves : {from to : ℕ} → xs.count ≤ p → Between text p from to → Put xs ys x to size g → Moves text p xs ys g
+  pub leaf-moves : {to : ℕ} → xs.count ≤ p → (p < to) × (to ≤ length text) → Put xs ys x to size g → Moves text p xs ys g
   leaf-moves h i put = record { on = omega (arith, put.to_is); inside = omega (arith, put.to_is); few = omega (arith, put.to_is, put.counted); new = omega (arith, put.root); root = omega (arith, put.root, put.counted) }
 
   pub seq-moves : {xs0 : Table Node} {a b : Got} {ta : ℕ} {t1 : Table Node} → Moves text p xs0 t1 a → Behind text a.to ta → Moves text ta t1 xs b → Put xs ys x b.to size g → Moves text p xs0 ys g
@@ -25,14 +29,14 @@ module _ {text : List ℕ} {p : ℕ} {xs ys : Table Node} {x : Node} {size : Siz
   pub set-moves : {xs0 : Table Node} {e : Got} {from to value : ℕ} → (p ≤ from) × (from < to) × (to < value) × (value ≤ length text) → Moves text value xs0 xs e → Put xs ys x e.to size g → Moves text p xs0 ys g
   set-moves i me put = record { on = omega (arith, put.to_is); inside = omega (arith, put.to_is); few = omega (arith, put.to_is, put.counted); new = omega (arith, put.root); root = omega (arith, put.root, put.counted) }
 
-  pub while-moves : {xs0 : Table Node} {a b : Got} {from q ta tb : ℕ} {t1 : Table Node} → Between text p from q → Moves text q xs0 t1 a → Behind text a.to ta → Moves text ta t1 xs b → Behind text b.to tb → Put xs ys x tb size g → Moves text p xs0 ys g
+  pub while-moves : {xs0 : Table Node} {a b : Got} {q ta tb : ℕ} {t1 : Table Node} → Behind text p q → Moves text q xs0 t1 a → Behind text a.to ta → Moves text ta t1 xs b → Behind text b.to tb → Put xs ys x tb size g → Moves text p xs0 ys g
   while-moves i ma ia mb ib put = record { on = omega (arith, put.to_is); inside = omega (arith, put.to_is); few = omega (arith, put.to_is, put.counted); new = omega (arith, put.root); root = omega (arith, put.root, put.counted) }
 
-  pub if-moves : {xs0 : Table Node} {a b c : Got} {from q ta tb tc : ℕ} {t1 t2 : Table Node} → Between text p from q → Moves text q xs0 t1 a → Behind text a.to ta → Moves text ta t1 t2 b → Behind text b.to tb → Moves text tb t2 xs c → Behind text c.to tc
+  pub if-moves : {xs0 : Table Node} {a b c : Got} {q ta tb tc : ℕ} {t1 t2 : Table Node} → Behind text p q → Moves text q xs0 t1 a → Behind text a.to ta → Moves text ta t1 t2 b → Behind text b.to tb → Moves text tb t2 xs c → Behind text c.to tc
       → Put xs ys x tc size g → Moves text p xs0 ys g
   if-moves i ma ia mb ib mc ic put = record { on = omega (arith, put.to_is); inside = omega (arith, put.to_is); few = omega (arith, put.to_is, put.counted); new = omega (arith, put.root); root = omega (arith, put.root, put.counted) }
 
-  pub new-moves : {xs0 : Table Node} {b : Given} {from q cf ct r : ℕ} → Between text p from q → Between text q cf ct → Behind text ct r → MovesArgs text r xs0 xs b → Put xs ys x b.to size g → Moves text p xs0 ys g
+  pub new-moves : {xs0 : Table Node} {b : Given} {q cf ct r : ℕ} → Behind text p q → Between text q cf ct → Behind text ct r → MovesArgs text r xs0 xs b → Put xs ys x b.to size g → Moves text p xs0 ys g
   new-moves i ic io mb put = record { on = omega (arith, put.to_is); inside = omega (arith, put.to_is); few = omega (arith, put.to_is, put.counted); new = omega (arith, put.root); root = omega (arith, put.root, put.counted) }
 
   pub test-moves : {xs0 : Table Node} {a : Got} {ta cf ct : ℕ} → Moves text p xs0 xs a → Behind text a.to ta → Between text ta cf ct → Put xs ys x ct size g → Moves text p xs0 ys g

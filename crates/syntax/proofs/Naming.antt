@@ -1,17 +1,17 @@
 -- The distinct names of a body, kept as spans of its text.
-use Rattle.std.proofs.Common.{◌≡◌, ℕ, zero, suc, ◌+◌, ◌^◌, ◌<◌, ◌≤◌, Bool, true, false, ◌||◌, List, [], ◌∷◌, ◌++◌, map, length, get_or, take, Some, None, Option, Ok, Err, Result, MatchResult, mod-eq_of_lt, ◌-◌, is_some, sym, refl, ap, ◌∙◌, subst, ap₂, ⊎_elim, arith}
+use Rattle.std.proofs.Common.{◌≡◌, ℕ, zero, suc, ◌+◌, ◌^◌, ◌<◌, ◌≤◌, Bool, true, false, ◌||◌, List, [], ◌∷◌, ◌++◌, map, length, get_or, take, Some, None, Option, Ok, Err, Result, MatchResult, is_some, sym, refl, ap, ◌∙◌, subst, ⊎_elim, arith}
 use Rattle.std.proofs.lemmas.Slice.Eq.{bytes_eq-Decides}
 use Rattle.std.proofs.lemmas.List.{map_push, length_push, length-map, length-take, take_all, take-append-le, get_or-map, get_or-take}
 use Rattle.std.proofs.lemmas.Bool.{cases_Bool, or_right, or_from, cond-true, cond-false}
 use Rattle.std.specs.Str.{bytes_eq}
 use Rattle.stack.specs.declared.Stack.{Stack}
 use Rattle.stack.specs.Held.{held, room}
-use Rattle.text.specs.declared.span.Space.TheVariants.{Texts}
 use Rattle.text.specs.declared.span.Span.{Span}
 use Rattle.text.specs.First.{First}
 use Rattle.text.specs.Memory.{bytes_of}
 use Rattle.grammar.specs.Measure.{known, learn, learn_all}
 use Rattle.syntax.specs.Sight.{slice}
+use Rattle.nodes.specs.Trees.{span_of}
 use Rattle.syntax.specs.declared.read.Variable.{Variable}
 use Rattle.syntax.specs.declared.read.Variable.TheVariants as variable
 use Rattle.syntax.specs.Sizes.{lone, Knows, Learns}
@@ -52,60 +52,58 @@ take-learn n ns x h =
 pub no_names : {text : List ℕ} {us : Stack Span} → room us ≡ 17 → held us ≡ [] → Knows text us []
 no_names {text} h e = record { room = h; words = ap (map (bytes_of (lone text))) e }
 
--- the bytes of a name in its (record { space = Texts; start = from; len = to - from }) text
-name-bytes : (text : List ℕ) (from to : ℕ) → from < 2 ^ 16 → from ≤ to → to ≤ length text → bytes_of (lone text) (record { space = Texts; start = from; len = to - from }) ≡ slice text from to
-name-bytes text from to h le g =
-    ap (λ z. bytes_of (lone text) (record { space = Texts; start = z; len = to - from })) (sym (mod-eq_of_lt (omega arith) ∙ (let e : 0 + from ≡ from = omega arith in e)))
-    ∙ (word-from (lone text) text 0 from to (omega arith) (λ i lt. ap (λ z. get_or text z 0) (let e : 0 + i ≡ i = omega arith in e)) le g).1
+-- a name is learnt by where it lies
+pub learnt-there : {text : List ℕ} {us vs : Stack Span} (s : Span) (from to : ℕ) → from < 2 ^ 16 → from ≤ to → to ≤ length text → s ≡ span_of 0 from to
+    → Learns text us vs (bytes_of (lone text) s) → Learns text us vs (slice text from to)
+learnt-there {text} {us} {vs} s from to h le g e l =
+    subst (Learns text us vs)
+    (ap (bytes_of (lone text)) e ∙ (word-from (lone text) text 0 from to (omega arith) (λ i lt. ap (λ z. get_or text z 0) (let e : 0 + i ≡ i = omega arith in e)) le g).1) l
 
-module _ {text : List ℕ} {us : Stack Span} (from to : ℕ) (small : from < 2 ^ 16) (le : from ≤ to) (inside : to ≤ length text) where
+module _ {text : List ℕ} {us : Stack Span} {xs : List Span} (own : Span) (is : xs ≡ held us) where
   -- a name that is among them
-  pub learnt-known : {xs : List Span} (r : Option ℕ) → xs ≡ held us → First (λ s. bytes_of (lone text) s ≡ bytes_of (lone text) (record { space = Texts; start = from; len = to - from })) xs r → is_some r ≡ true → Learns text us us (slice text from to)
-  learnt-known None i p e = let z : ◌≡◌ {A = ℕ} 0 1 = cc in absurd (omega arith)
-  learnt-known (Some i) is p₀ e = record {
+  pub learnt-known : (r : Option ℕ) → First (λ s. bytes_of (lone text) s ≡ bytes_of (lone text) own) xs r → is_some r ≡ true → Learns text us us (bytes_of (lone text) own)
+  learnt-known None p e = let z : ◌≡◌ {A = ℕ} 0 1 = cc in absurd (omega arith)
+  learnt-known (Some i) q e = record {
     learns = λ ns k.
         let f = bytes_of (lone text) in
         let m = length-map (held us) f in
         let w = ap length k.words in
         let t = length-take 17 ns in
-        let p = subst (λ z. First (λ s. bytes_of (lone text) s ≡ bytes_of (lone text) (record { space = Texts; start = from; len = to - from })) z (Some i)) is p₀ in
+        let p = subst (λ z. First (λ s. bytes_of (lone text) s ≡ bytes_of (lone text) own) z (Some i)) is q in
         let lt = p.0 in
-        let at : get_or ns i [] ≡ slice text from to =
-        sym (get_or-take 17 ns i [] (omega arith)) ∙ ap (λ z. get_or z i []) (sym k.words) ∙ get_or-map f (held us) i (record { space = Texts; start = from; len = to - from }) [] lt ∙ p.1 (record { space = Texts; start = from; len = to - from }) ∙ name-bytes text from to small le inside in
+        let at : get_or ns i [] ≡ f own = sym (get_or-take 17 ns i [] (omega arith)) ∙ ap (λ z. get_or z i []) (sym k.words) ∙ get_or-map f (held us) i own [] lt ∙ p.1 own in
         subst (Knows text us) (sym (learn-known ns _ (known_at ns i _ (omega arith) at))) k;
   }
 
   -- a new name, put behind the others while there is room
-  pub learnt-new : {vs : Stack Span} {U : Type 0} {xs : List Span} (r : Option ℕ) (q : Result U Span) → xs ≡ held us → First (λ s. bytes_of (lone text) s ≡ bytes_of (lone text) (record { space = Texts; start = from; len = to - from })) xs r → is_some r ≡ false → room vs ≡ room us
-      → MatchResult q (λ _. length (held us) < room us) (λ y. (y ≡ (record { space = Texts; start = from; len = to - from })) × (length (held us) ≡ room us)) → MatchResult q (λ _. held vs ≡ held us ++ (record { space = Texts; start = from; len = to - from }) ∷ []) (λ _. held vs ≡ held us) → Learns text us vs (slice text from to)
-  learnt-new (Some i) q is p e r full h = let z : ◌≡◌ {A = ℕ} 0 1 = cc in absurd (omega arith)
-  learnt-new None (Ok u) is p₀ e r full h = record {
+  pub learnt-new : {vs : Stack Span} {U : Type 0} (r : Option ℕ) (q : Result U Span) → First (λ s. bytes_of (lone text) s ≡ bytes_of (lone text) own) xs r → is_some r ≡ false → room vs ≡ room us
+      → MatchResult q (λ _. length (held us) < room us) (λ y. (y ≡ own) × (length (held us) ≡ room us)) → MatchResult q (λ _. held vs ≡ held us ++ own ∷ []) (λ _. held vs ≡ held us) → Learns text us vs (bytes_of (lone text) own)
+  learnt-new (Some i) q p e r full h = let z : ◌≡◌ {A = ℕ} 0 1 = cc in absurd (omega arith)
+  learnt-new None (Ok u) q e r full h = record {
     learns = λ ns k.
         let f = bytes_of (lone text) in
-        let x = slice text from to in
-        let b = name-bytes text from to small le inside in
-        let p = subst (λ z. First (λ s. bytes_of (lone text) s ≡ bytes_of (lone text) (record { space = Texts; start = from; len = to - from })) z None) is p₀ in
         let m = length-map (held us) f in
         let w = ap length k.words in
         let t = length-take 17 ns in
         let size = k.room in
+        let p = subst (λ z. First (λ s. bytes_of (lone text) s ≡ bytes_of (lone text) own) z None) is q in
         let all : take 17 ns ≡ ns = take_all 17 ns (omega arith) in
-        let new : known ns x ≡ false = known-nowhere ns x (λ i lt g. p i (record { space = Texts; start = from; len = to - from }) (omega arith) (sym (get_or-map f (held us) i (record { space = Texts; start = from; len = to - from }) [] (omega arith)) ∙ ap (λ z. get_or z i []) (k.words ∙ all) ∙ g ∙ sym b)) in
-        let l = length_push ns x in
-        subst (Knows text _) (sym (learn-new ns x new))
+        let new : known ns (f own) ≡ false = known-nowhere ns (f own) (λ i lt g. p i own (omega arith) (sym (get_or-map f (held us) i own [] (omega arith)) ∙ ap (λ z. get_or z i []) (k.words ∙ all) ∙ g)) in
+        let l = length_push ns (f own) in
+        subst (Knows text _) (sym (learn-new ns (f own) new))
         (record {
           room = r ∙ k.room;
-          words = ap (map f) h ∙ map_push f (held us) (record { space = Texts; start = from; len = to - from }) ∙ ap₂ (λ y z. y ++ (z ∷ [])) (k.words ∙ all) b ∙ sym (take_all 17 (ns ++ (x ∷ [])) (omega arith));
+          words = ap (map f) h ∙ map_push f (held us) own ∙ ap (λ y. y ++ (f own ∷ [])) (k.words ∙ all) ∙ sym (take_all 17 (ns ++ (f own ∷ [])) (omega arith));
         });
   }
-  learnt-new None (Err y) is p e r full h = record {
+  learnt-new None (Err y) p e r full h = record {
     learns = λ ns k.
         let m = length-map (held us) (bytes_of (lone text)) in
         let w = ap length k.words in
         let t = length-take 17 ns in
         let size = k.room in
         let f = full.1 in
-        record { room = r ∙ k.room; words = ap (map (bytes_of (lone text))) h ∙ k.words ∙ sym (take-learn 17 ns (slice text from to) (omega arith)) };
+        record { room = r ∙ k.room; words = ap (map (bytes_of (lone text))) h ∙ k.words ∙ sym (take-learn 17 ns (bytes_of (lone text) own) (omega arith)) };
   }
 
 -- the names that a write's target adds

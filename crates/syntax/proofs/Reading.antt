@@ -12,12 +12,18 @@ use Rattle.grammar.specs.Notes.{note_of, forget, first, annotate, annotate_args}
 use Rattle.grammar.proofs.Steps.{goes}
 use Rattle.grammar.proofs.Notes.{own_first}
 use Rattle.syntax.specs.Left.{left, terms, places}
-use Rattle.syntax.specs.Sight.{sort_of, head_sort}
+use Rattle.syntax.specs.declared.sight.Sort.{Sort}
+use Rattle.syntax.specs.declared.sight.Sight.{Sight}
+use Rattle.syntax.specs.Sight.{sort_of, head_sort, shown}
 use Rattle.syntax.specs.Parsing.{Ahead, Reads, Refused}
 
 -- the token t stands next behind p, at the place f, and ends at q
 pub record Sees (text : List ℕ) (p : ℕ) (t : Terminal) (f q : ℕ) : Type 0 where
   pub is : left text p ≡ record { token = t; place = f } ∷ left text q
+
+-- a token of the sort that it was found to be
+pub shown-as : (text : List ℕ) (p : ℕ) (x : Sight) {r s : Sort} → left text p ≡ shown text r x.from x.to → r ≡ s → left text p ≡ shown text s x.from x.to
+shown-as text p x e i = e ∙ ap (λ z. shown text z x.from x.to) i
 
 pub roomy : (k : Context) → item ≤ room k
 roomy Context.whole = omega arith

@@ -11,6 +11,7 @@ ghost use Rattle.syntax.specs.Ended.{TextStuck};
 ghost use Rattle.syntax.specs.Whole.{TextRefused, RefusedWithin, ClassStands, ClassWithin, ClassJudged, ClassMeasured};
 
 use crate::limits::{NAMES, within};
+use crate::names::own;
 use crate::read::{Defined, Judged, Listed, Stuck};
 use crate::sight::{Sight, Sort};
 use crate::source::Text;
@@ -28,7 +29,7 @@ impl Text<'_> {
         requires few { listed.parameters.count < sight.to }
         ensures one_more { Adds self.entry.bytes.now self.entry.base names.old names.new listed sight.from sight.to result }
     {
-        self.learn(names, sight.from, sight.to);
+        self.learn(names, own(sight.from, sight.to));
         let name = self.span(sight.from, sight.to);
         Listed {
             to: sight.to,

@@ -19,7 +19,7 @@ use stack::Stack;
 use text::span::Span;
 
 // The form of a write.
-fn written(text: Text<'_>, target: Target, root: u16) -> Form
+pub fn written(text: Text<'_>, target: Target, root: u16) -> Form
     requires { target.from ≤ target.to }
     ensures by_its_target { result ≡ written_form target.variable (span_of text.entry.base target.from target.to) root }
 {
@@ -152,11 +152,11 @@ impl Text<'_> {
     {
         match self.look(at) {
             Some(sight) => match sight.sort {
-                Sort::Name => Ok(self.local(at, sight, nodes, names)),
-                Sort::Integer => Ok(self.integer(at, sight, nodes, names)),
-                Sort::Field => Ok(self.field(at, sight, nodes, names)),
-                Sort::Str => Ok(self.string(at, sight, nodes, names)),
-                Sort::Word(keyword) => self.keyed(at, sight, keyword, nodes, names),
+                Sort::Name => Ok(self.local(sight, nodes, names)),
+                Sort::Integer => Ok(self.integer(sight, nodes, names)),
+                Sort::Field => Ok(self.field(sight, nodes, names)),
+                Sort::Str => Ok(self.string(sight, nodes, names)),
+                Sort::Word(keyword) => self.keyed(sight, keyword, nodes, names),
                 Sort::Sign(_) => Err(Stuck(sight.from)),
             },
             None => Err(Stuck(self.bytes.len() as u16)),
@@ -167,22 +167,20 @@ impl Text<'_> {
     #[cycle(expressions)]
     fn keyed(
         self,
-        at: u16,
         sight: Sight,
         keyword: Keyword,
         nodes: &mut Table<'_, Node>,
         names: &mut Stack<'_, Span>,
     ) -> Result<Got, Stuck>
-        requires few { nodes.old.count ≤ at }
-        requires bounds { (at ≤ sight.from) × (sight.from < sight.to) × (sight.to ≤ length self.bytes.now) }
-        requires begins { left self.bytes.now at ≡ shown self.bytes.now (sort.Word keyword) sight.from sight.to }
-        ensures moves { IfOk result (λ g. Moves self.entry.bytes.now at nodes.old nodes.new g) }
-        ensures reads { MatchResult result (λ g. Parsed 1 self.entry.bytes.now self.entry.base at nodes.old nodes.new names.old names.new g) (λ s. Refused 1 self.entry.bytes.now at s.0) }
+        requires few { nodes.old.count ≤ sight.from }
+        requires bounds { (sight.from < sight.to) × (sight.to ≤ length self.bytes.now) }
+        ensures moves { IfOk result (λ g. Moves self.entry.bytes.now sight.from nodes.old nodes.new g) }
+        ensures reads { (p : ℕ) → left self.entry.bytes.now p ≡ shown self.entry.bytes.now (sort.Word keyword) sight.from sight.to → MatchResult result (λ g. Parsed 1 self.entry.bytes.now self.entry.base p nodes.old nodes.new names.old names.new g) (λ s. Refused 1 self.entry.bytes.now p s.0) }
     {
         match keyword {
-            Keyword::If => self.conditional(at, sight, nodes, names),
-            Keyword::While => self.repetition(at, sight, nodes, names),
-            Keyword::New => self.creation(at, sight, nodes, names),
+            Keyword::If => self.conditional(sight, nodes, names),
+            Keyword::While => self.repetition(sight, nodes, names),
+            Keyword::New => self.creation(sight, nodes, names),
             Keyword::Nil => Ok(leaf(nodes, sight, Form::Nil)),
             Keyword::SelfWord => Ok(leaf(nodes, sight, Form::SelfWord)),
             _ => Err(Stuck(sight.from)),
@@ -193,16 +191,14 @@ impl Text<'_> {
     #[cycle(expressions)]
     fn conditional(
         self,
-        at: u16,
         sight: Sight,
         nodes: &mut Table<'_, Node>,
         names: &mut Stack<'_, Span>,
     ) -> Result<Got, Stuck>
-        requires few { nodes.old.count ≤ at }
-        requires bounds { (at ≤ sight.from) × (sight.from < sight.to) × (sight.to ≤ length self.bytes.now) }
-        requires begins { left self.bytes.now at ≡ shown self.bytes.now (sort.Word word.If) sight.from sight.to }
-        ensures moves { IfOk result (λ g. Moves self.entry.bytes.now at nodes.old nodes.new g) }
-        ensures reads { MatchResult result (λ g. Parsed 1 self.entry.bytes.now self.entry.base at nodes.old nodes.new names.old names.new g) (λ s. Refused 1 self.entry.bytes.now at s.0) }
+        requires few { nodes.old.count ≤ sight.from }
+        requires bounds { (sight.from < sight.to) × (sight.to ≤ length self.bytes.now) }
+        ensures moves { IfOk result (λ g. Moves self.entry.bytes.now sight.from nodes.old nodes.new g) }
+        ensures reads { (p : ℕ) → left self.entry.bytes.now p ≡ shown self.entry.bytes.now (sort.Word word.If) sight.from sight.to → MatchResult result (λ g. Parsed 1 self.entry.bytes.now self.entry.base p nodes.old nodes.new names.old names.new g) (λ s. Refused 1 self.entry.bytes.now p s.0) }
     {
         let a = self.sequence(sight.to, nodes, names)?;
         let to = self.expect(a.to, Sort::Word(Keyword::Then))?;
@@ -226,16 +222,14 @@ impl Text<'_> {
     #[cycle(expressions)]
     fn repetition(
         self,
-        at: u16,
         sight: Sight,
         nodes: &mut Table<'_, Node>,
         names: &mut Stack<'_, Span>,
     ) -> Result<Got, Stuck>
-        requires few { nodes.old.count ≤ at }
-        requires bounds { (at ≤ sight.from) × (sight.from < sight.to) × (sight.to ≤ length self.bytes.now) }
-        requires begins { left self.bytes.now at ≡ shown self.bytes.now (sort.Word word.While) sight.from sight.to }
-        ensures moves { IfOk result (λ g. Moves self.entry.bytes.now at nodes.old nodes.new g) }
-        ensures reads { MatchResult result (λ g. Parsed 1 self.entry.bytes.now self.entry.base at nodes.old nodes.new names.old names.new g) (λ s. Refused 1 self.entry.bytes.now at s.0) }
+        requires few { nodes.old.count ≤ sight.from }
+        requires bounds { (sight.from < sight.to) × (sight.to ≤ length self.bytes.now) }
+        ensures moves { IfOk result (λ g. Moves self.entry.bytes.now sight.from nodes.old nodes.new g) }
+        ensures reads { (p : ℕ) → left self.entry.bytes.now p ≡ shown self.entry.bytes.now (sort.Word word.While) sight.from sight.to → MatchResult result (λ g. Parsed 1 self.entry.bytes.now self.entry.base p nodes.old nodes.new names.old names.new g) (λ s. Refused 1 self.entry.bytes.now p s.0) }
     {
         let a = self.sequence(sight.to, nodes, names)?;
         let to = self.expect(a.to, Sort::Word(Keyword::Do))?;
@@ -252,16 +246,14 @@ impl Text<'_> {
     #[cycle(expressions)]
     fn creation(
         self,
-        at: u16,
         sight: Sight,
         nodes: &mut Table<'_, Node>,
         names: &mut Stack<'_, Span>,
     ) -> Result<Got, Stuck>
-        requires few { nodes.old.count ≤ at }
-        requires bounds { (at ≤ sight.from) × (sight.from < sight.to) × (sight.to ≤ length self.bytes.now) }
-        requires begins { left self.bytes.now at ≡ shown self.bytes.now (sort.Word word.New) sight.from sight.to }
-        ensures moves { IfOk result (λ g. Moves self.entry.bytes.now at nodes.old nodes.new g) }
-        ensures reads { MatchResult result (λ g. Parsed 1 self.entry.bytes.now self.entry.base at nodes.old nodes.new names.old names.new g) (λ s. Refused 1 self.entry.bytes.now at s.0) }
+        requires few { nodes.old.count ≤ sight.from }
+        requires bounds { (sight.from < sight.to) × (sight.to ≤ length self.bytes.now) }
+        ensures moves { IfOk result (λ g. Moves self.entry.bytes.now sight.from nodes.old nodes.new g) }
+        ensures reads { (p : ℕ) → left self.entry.bytes.now p ≡ shown self.entry.bytes.now (sort.Word word.New) sight.from sight.to → MatchResult result (λ g. Parsed 1 self.entry.bytes.now self.entry.base p nodes.old nodes.new names.old names.new g) (λ s. Refused 1 self.entry.bytes.now p s.0) }
     {
         let class = self.name(sight.to)?;
         let open = self.expect(class.to, Sort::Sign(Symbol::OpenParen))?;

@@ -6,6 +6,7 @@ ghost use Rattle.syntax.specs.Sight.{shown};
 ghost use Rattle.syntax.specs.Parsing.{Parsed, Moves};
 
 use crate::limits::STRING;
+use crate::names::own;
 use crate::number::value;
 use crate::read::{Got, Size};
 use crate::sight::Sight;
@@ -19,33 +20,29 @@ impl Text<'_> {
     // A local, read.
     pub fn local(
         self,
-        at: u16,
         sight: Sight,
         nodes: &mut Table<'_, Node>,
         names: &mut Stack<'_, Span>,
     ) -> Got
-        requires few { nodes.old.count ≤ at }
-        requires bounds { (at ≤ sight.from) × (sight.from < sight.to) × (sight.to ≤ length self.bytes.now) }
-        requires begins { left self.bytes.now at ≡ shown self.bytes.now sort.Name sight.from sight.to }
-        ensures moves { Moves self.entry.bytes.now at nodes.old nodes.new result }
-        ensures reads { Parsed 1 self.entry.bytes.now self.entry.base at nodes.old nodes.new names.old names.new result }
+        requires few { nodes.old.count ≤ sight.from }
+        requires bounds { (sight.from < sight.to) × (sight.to ≤ length self.bytes.now) }
+        ensures moves { Moves self.entry.bytes.now sight.from nodes.old nodes.new result }
+        ensures reads { (p : ℕ) → left self.entry.bytes.now p ≡ shown self.entry.bytes.now sort.Name sight.from sight.to → Parsed 1 self.entry.bytes.now self.entry.base p nodes.old nodes.new names.old names.new result }
     {
-        self.learn(names, sight.from, sight.to);
+        self.learn(names, own(sight.from, sight.to));
         leaf(nodes, sight, Form::Local(self.span(sight.from, sight.to)))
     }
 
     pub fn integer(
         self,
-        at: u16,
         sight: Sight,
         nodes: &mut Table<'_, Node>,
         names: &mut Stack<'_, Span>,
     ) -> Got
-        requires few { nodes.old.count ≤ at }
-        requires bounds { (at ≤ sight.from) × (sight.from < sight.to) × (sight.to ≤ length self.bytes.now) }
-        requires begins { left self.bytes.now at ≡ shown self.bytes.now sort.Integer sight.from sight.to }
-        ensures moves { Moves self.entry.bytes.now at nodes.old nodes.new result }
-        ensures reads { Parsed 1 self.entry.bytes.now self.entry.base at nodes.old nodes.new names.old names.new result }
+        requires few { nodes.old.count ≤ sight.from }
+        requires bounds { (sight.from < sight.to) × (sight.to ≤ length self.bytes.now) }
+        ensures moves { Moves self.entry.bytes.now sight.from nodes.old nodes.new result }
+        ensures reads { (p : ℕ) → left self.entry.bytes.now p ≡ shown self.entry.bytes.now sort.Integer sight.from sight.to → Parsed 1 self.entry.bytes.now self.entry.base p nodes.old nodes.new names.old names.new result }
     {
         let number = value(&self.bytes[sight.from as usize..sight.to as usize]);
         let node = Node {
@@ -58,16 +55,14 @@ impl Text<'_> {
     // A field, read.
     pub fn field(
         self,
-        at: u16,
         sight: Sight,
         nodes: &mut Table<'_, Node>,
         names: &mut Stack<'_, Span>,
     ) -> Got
-        requires few { nodes.old.count ≤ at }
-        requires bounds { (at ≤ sight.from) × (sight.from < sight.to) × (sight.to ≤ length self.bytes.now) }
-        requires begins { left self.bytes.now at ≡ shown self.bytes.now sort.Field sight.from sight.to }
-        ensures moves { Moves self.entry.bytes.now at nodes.old nodes.new result }
-        ensures reads { Parsed 1 self.entry.bytes.now self.entry.base at nodes.old nodes.new names.old names.new result }
+        requires few { nodes.old.count ≤ sight.from }
+        requires bounds { (sight.from < sight.to) × (sight.to ≤ length self.bytes.now) }
+        ensures moves { Moves self.entry.bytes.now sight.from nodes.old nodes.new result }
+        ensures reads { (p : ℕ) → left self.entry.bytes.now p ≡ shown self.entry.bytes.now sort.Field sight.from sight.to → Parsed 1 self.entry.bytes.now self.entry.base p nodes.old nodes.new names.old names.new result }
     {
         leaf(nodes, sight, Form::Field(self.span(sight.from, sight.to)))
     }
@@ -75,17 +70,15 @@ impl Text<'_> {
     // A string, without its quotes.
     pub fn string(
         self,
-        at: u16,
         sight: Sight,
         nodes: &mut Table<'_, Node>,
         names: &mut Stack<'_, Span>,
     ) -> Got
-        requires few { nodes.old.count ≤ at }
-        requires bounds { (at ≤ sight.from) × (sight.from < sight.to) × (sight.to ≤ length self.bytes.now) }
+        requires few { nodes.old.count ≤ sight.from }
+        requires bounds { (sight.from < sight.to) × (sight.to ≤ length self.bytes.now) }
         requires quoted { sight.from + 2 ≤ sight.to }
-        requires begins { left self.bytes.now at ≡ shown self.bytes.now sort.Str sight.from sight.to }
-        ensures moves { Moves self.entry.bytes.now at nodes.old nodes.new result }
-        ensures reads { Parsed 1 self.entry.bytes.now self.entry.base at nodes.old nodes.new names.old names.new result }
+        ensures moves { Moves self.entry.bytes.now sight.from nodes.old nodes.new result }
+        ensures reads { (p : ℕ) → left self.entry.bytes.now p ≡ shown self.entry.bytes.now sort.Str sight.from sight.to → Parsed 1 self.entry.bytes.now self.entry.base p nodes.old nodes.new names.old names.new result }
     {
         let word = self.span(sight.from + 1, sight.to - 1);
         let node = Node {

@@ -1,7 +1,8 @@
 // The distinct names of a body.
-ghost use Rattle.std.specs.Prelude.{◌≤◌, length};
-ghost use Rattle.syntax.specs.Sight.{slice};
-ghost use Rattle.syntax.specs.Sizes.{Learns};
+ghost use Rattle.std.specs.Prelude.{◌≡◌, ◌+◌, ◌-◌, ◌%◌, ◌^◌, ◌≤◌, length};
+ghost use Rattle.text.specs.Memory.{bytes_of};
+ghost use Rattle.nodes.specs.Trees.{span_of};
+ghost use Rattle.syntax.specs.Sizes.{lone, Learns};
 ghost use Rattle.syntax.specs.Parsing.{meant, LearnsTarget};
 
 use crate::read::{Target, Variable};
@@ -10,17 +11,23 @@ use stack::Stack;
 use text::search::first_equal;
 use text::span::{Bytes, Space, Span};
 
+// The bytes `from` up to `to` of the text itself.
+pub fn own(from: u16, to: u16) -> Span
+    requires { from ≤ to }
+    ensures where_they_lie { result ≡ span_of 0 from to }
+{
+    Span {
+        space: Space::Texts,
+        start: from,
+        len: to - from,
+    }
+}
+
 impl Text<'_> {
-    // Learns the name that has the bytes `from` up to `to`, if it is not among the names. Where there is room for one more than a body may have, names that find none need not be learnt.
-    pub(crate) fn learn(self, names: &mut Stack<'_, Span>, from: u16, to: u16)
-        requires { (from ≤ to) × (to ≤ length self.bytes.now) }
-        ensures one_more_if_new { Learns self.entry.bytes.now names.old names.new (slice self.entry.bytes.now from to) }
+    // Learns a name of the text, if it is not among the names. With room for one more than a body may have, a full stack has too many, whatever is not learnt.
+    pub fn learn(self, names: &mut Stack<'_, Span>, name: Span)
+        ensures one_more_if_new { Learns self.entry.bytes.now names.old names.new (bytes_of (lone self.entry.bytes.now) name) }
     {
-        let name = Span {
-            space: Space::Texts,
-            start: from,
-            len: to - from,
-        };
         let bytes = Bytes {
             fixed: b"",
             texts: self.bytes,
@@ -32,12 +39,12 @@ impl Text<'_> {
     }
 
     // Learns the name of a local that is written to; a field's is none.
-    pub(crate) fn learn_target(self, names: &mut Stack<'_, Span>, target: Target)
-        requires { (target.from ≤ target.to) × (target.to ≤ length self.bytes.now) }
-        ensures named_by_it { LearnsTarget self.entry.bytes.now names.old names.new (meant self.entry.bytes.now target) }
+    pub fn learn_target(self, names: &mut Stack<'_, Span>, target: Target)
+        requires { target.from ≤ target.to }
+        ensures named_by_it { target.to ≤ length self.entry.bytes.now → LearnsTarget self.entry.bytes.now names.old names.new (meant self.entry.bytes.now target) }
     {
         match target.variable {
-            Variable::Local => self.learn(names, target.from, target.to),
+            Variable::Local => self.learn(names, own(target.from, target.to)),
             Variable::Field => (),
         }
     }

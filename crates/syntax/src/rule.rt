@@ -33,6 +33,7 @@ impl Text<'_> {
 }
 
 // The rule that the text is, with whether it is within the limits; or its refusal.
+// (No one function with that of classes: they have a table of methods beside, and a closure over the tables would hide which table has what.)
 fn judged(text: &[u8], base: u16, nodes: &mut [Node]) -> Result<Judged<Rule>, Refusal>
     ensures the_one_tree_or_the_refusal { MatchResult result (λ g. RuleJudged text.now base nodes.new g) (λ f. TextRefused Kind.rule text.now f) }
 {

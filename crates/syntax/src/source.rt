@@ -2,7 +2,7 @@
 ghost use Rattle.std.specs.Prelude.{◌≡◌, ◌+◌, ◌-◌, ◌%◌, ◌^◌, ◌≤◌, length, IfOk, MatchResult};
 ghost use Rattle.nodes.specs.Trees.{span_of};
 ghost use Rattle.syntax.specs.Left.{left};
-ghost use Rattle.syntax.specs.Breaks.{Lexes};
+ghost use Rattle.syntax.specs.Breaks.{Lexes, text_limit};
 ghost use Rattle.syntax.specs.Whole.{Unlexed};
 
 use crate::limits::TEXT;
@@ -15,7 +15,7 @@ use text::span::{Space, Span};
 pub struct Text<'t> {
     pub(crate) bytes: &'t [u8],
     base: u16,
-    ghost short: { length bytes.now ≤ 4096 },
+    ghost short: { length bytes.now ≤ text_limit },
 }
 
 impl<'t> Text<'t> {

@@ -1,12 +1,11 @@
 use Rattle.std.proofs.Common.{◌≡◌, ℕ, refl, ap, ◌∙◌, arith}
-use Rattle.std.proofs.lemmas.Result.{err_from_is_err_and, MatchResult-weaker}
+use Rattle.std.proofs.lemmas.Result.{err_from_is_err_and, MatchResult-weaker, IfOk-weaker}
 use Rattle.grammar.specs.Tree.{Expr}
 use Rattle.syntax.specs.declared.sight.Sort.TheVariants as sort
-use Rattle.syntax.specs.Sight.{shown}
 use Rattle.syntax.specs.Sizes.{around, side_by_side}
-use Rattle.syntax.proofs.Reading.{lower, never}
+use Rattle.syntax.proofs.Reading.{lower, never, shown-as}
 use Rattle.syntax.proofs.Sizes.{plain-sized}
-use Rattle.syntax.proofs.Moving.{leaf-moves, seq-moves, set-moves, while-moves, if-moves, new-moves, test-moves, call-moves, none_moves, first-moves, next-moves, close-moves}
+use Rattle.syntax.proofs.Moving.{earlier, leaf-moves, seq-moves, set-moves, while-moves, if-moves, new-moves, test-moves, call-moves, none_moves, first-moves, next-moves, close-moves}
 use Rattle.syntax.proofs.Forms.{alternative-lost, args-made, call-args-lost, call-made, call-open-lost, class-lost, close-lost, condition-lost, consequent-lost, do-lost, else-lost, end-lost, first-lost, first_made, guard-lost, idle-sign, idle-word, if-end-lost, if-made, item-test, leaf-made, loop-lost, method-lost, new-args-lost, new-made, new-open-lost, next-lost, next-made, none_made, seq-item, seq-lost, seq-made, set-lost, set-made, test-class-lost, test-made, then-lost, token-lost, while-end-lost, while-made}
 use Rattle.syntax.proofs.source.Text.+expressions.Goals as goal
 
@@ -51,7 +50,7 @@ item-returns-in_ok-e-in-Some t c =
     let put = c.put.ensures.put in
     record {
       moves = set-moves i me put;
-      reads = set-made c.in-Some.ensures.found c.in_ok-e-in-Some.ensures.reads put c.written.ensures.by_its_target me (omega arith) (omega arith) c.deeper.ensures c.learn_target.ensures.named_by_it;
+      reads = set-made c.in-Some.ensures.found c.in_ok-e-in-Some.ensures.reads put c.written.ensures.by_its_target me (omega arith) (omega arith) c.deeper.ensures (c.learn_target.ensures.named_by_it (omega arith));
     }
 
 pub item-returns-in-None : goal.item-returns-in-None
@@ -63,32 +62,32 @@ item-returns-in-None t c =
 pub conditional-returns-in_err-a : goal.conditional-returns-in_err-a
 conditional-returns-in_err-a t c =
     let p = err_from_is_err_and c.from_residual.result c.from_residual.ensures.1 in
-    rw (p.1, p.2) (record { moves = tt; reads = condition-lost (record { is = c.requires.begins }) c.in_err-a.ensures.reads })
+    rw (p.1, p.2) (record { moves = tt; reads = λ q b. condition-lost (record { is = b }) c.in_err-a.ensures.reads })
 
 pub conditional-returns-in_err-to : goal.conditional-returns-in_err-to
 conditional-returns-in_err-to t c =
     let p = err_from_is_err_and c.from_residual-in_err-to.result c.from_residual-in_err-to.ensures.1 in
-    rw (p.1, p.2) (record { moves = tt; reads = then-lost (record { is = c.requires.begins }) c.in_ok-a.ensures.reads c.in_err-to.ensures.found })
+    rw (p.1, p.2) (record { moves = tt; reads = λ q b. then-lost (record { is = b }) c.in_ok-a.ensures.reads c.in_err-to.ensures.found })
 
 pub conditional-returns-in_err-b : goal.conditional-returns-in_err-b
 conditional-returns-in_err-b t c =
     let p = err_from_is_err_and c.from_residual-in_err-b.result c.from_residual-in_err-b.ensures.1 in
-    rw (p.1, p.2) (record { moves = tt; reads = consequent-lost (record { is = c.requires.begins }) c.in_ok-a.ensures.reads (record { is = c.in_ok-to.ensures.found.1 }) c.in_err-b.ensures.reads })
+    rw (p.1, p.2) (record { moves = tt; reads = λ q b. consequent-lost (record { is = b }) c.in_ok-a.ensures.reads (record { is = c.in_ok-to.ensures.found.1 }) c.in_err-b.ensures.reads })
 
 pub conditional-returns-in_err-to-2 : goal.conditional-returns-in_err-to-2
 conditional-returns-in_err-to-2 t c =
     let p = err_from_is_err_and c.from_residual-in_err-to-2.result c.from_residual-in_err-to-2.ensures.1 in
-    rw (p.1, p.2) (record { moves = tt; reads = else-lost (record { is = c.requires.begins }) c.in_ok-a.ensures.reads (record { is = c.in_ok-to.ensures.found.1 }) c.in_ok-b.ensures.reads c.in_err-to-2.ensures.found })
+    rw (p.1, p.2) (record { moves = tt; reads = λ q b. else-lost (record { is = b }) c.in_ok-a.ensures.reads (record { is = c.in_ok-to.ensures.found.1 }) c.in_ok-b.ensures.reads c.in_err-to-2.ensures.found })
 
 pub conditional-returns-in_err-c : goal.conditional-returns-in_err-c
 conditional-returns-in_err-c t c =
     let p = err_from_is_err_and c.from_residual-in_err-c.result c.from_residual-in_err-c.ensures.1 in
-    rw (p.1, p.2) (record { moves = tt; reads = alternative-lost (record { is = c.requires.begins }) c.in_ok-a.ensures.reads (record { is = c.in_ok-to.ensures.found.1 }) c.in_ok-b.ensures.reads (record { is = c.in_ok-to-2.ensures.found.1 }) c.in_err-c.ensures.reads })
+    rw (p.1, p.2) (record { moves = tt; reads = λ q b. alternative-lost (record { is = b }) c.in_ok-a.ensures.reads (record { is = c.in_ok-to.ensures.found.1 }) c.in_ok-b.ensures.reads (record { is = c.in_ok-to-2.ensures.found.1 }) c.in_err-c.ensures.reads })
 
 pub conditional-returns-in_err-to-3 : goal.conditional-returns-in_err-to-3
 conditional-returns-in_err-to-3 t c =
     let p = err_from_is_err_and c.from_residual-in_err-to-3.result c.from_residual-in_err-to-3.ensures.1 in
-    rw (p.1, p.2) (record { moves = tt; reads = if-end-lost (record { is = c.requires.begins }) c.in_ok-a.ensures.reads (record { is = c.in_ok-to.ensures.found.1 }) c.in_ok-b.ensures.reads (record { is = c.in_ok-to-2.ensures.found.1 }) c.in_ok-c.ensures.reads c.in_err-to-3.ensures.found })
+    rw (p.1, p.2) (record { moves = tt; reads = λ q b. if-end-lost (record { is = b }) c.in_ok-a.ensures.reads (record { is = c.in_ok-to.ensures.found.1 }) c.in_ok-b.ensures.reads (record { is = c.in_ok-to-2.ensures.found.1 }) c.in_ok-c.ensures.reads c.in_err-to-3.ensures.found })
 
 pub conditional-returns : goal.conditional-returns
 conditional-returns t c =
@@ -101,7 +100,7 @@ conditional-returns t c =
     let put = c.put.ensures.put in
     record {
       moves = if-moves c.requires.bounds ma ia mb ib mc ic put;
-      reads = if-made (record { is = c.requires.begins }) c.in_ok-a.ensures.reads (record { is = c.in_ok-to.ensures.found.1 }) c.in_ok-b.ensures.reads (record { is = c.in_ok-to-2.ensures.found.1 }) c.in_ok-c.ensures.reads (record { is = c.in_ok-to-3.ensures.found.1 }) put ma mb mc
+      reads = λ q b. if-made (record { is = b }) c.in_ok-a.ensures.reads (record { is = c.in_ok-to.ensures.found.1 }) c.in_ok-b.ensures.reads (record { is = c.in_ok-to-2.ensures.found.1 }) c.in_ok-c.ensures.reads (record { is = c.in_ok-to-3.ensures.found.1 }) put ma mb mc
           (c.deeper.ensures ∙ ap around (c.beside-2.ensures ∙ ap (side_by_side c.in_ok-a.a.size) c.beside.ensures));
     }
 
@@ -110,22 +109,22 @@ conditional-returns t c =
 pub repetition-returns-in_err-a : goal.repetition-returns-in_err-a
 repetition-returns-in_err-a t c =
     let p = err_from_is_err_and c.from_residual.result c.from_residual.ensures.1 in
-    rw (p.1, p.2) (record { moves = tt; reads = guard-lost (record { is = c.requires.begins }) c.in_err-a.ensures.reads })
+    rw (p.1, p.2) (record { moves = tt; reads = λ q b. guard-lost (record { is = b }) c.in_err-a.ensures.reads })
 
 pub repetition-returns-in_err-to : goal.repetition-returns-in_err-to
 repetition-returns-in_err-to t c =
     let p = err_from_is_err_and c.from_residual-in_err-to.result c.from_residual-in_err-to.ensures.1 in
-    rw (p.1, p.2) (record { moves = tt; reads = do-lost (record { is = c.requires.begins }) c.in_ok-a.ensures.reads c.in_err-to.ensures.found })
+    rw (p.1, p.2) (record { moves = tt; reads = λ q b. do-lost (record { is = b }) c.in_ok-a.ensures.reads c.in_err-to.ensures.found })
 
 pub repetition-returns-in_err-b : goal.repetition-returns-in_err-b
 repetition-returns-in_err-b t c =
     let p = err_from_is_err_and c.from_residual-in_err-b.result c.from_residual-in_err-b.ensures.1 in
-    rw (p.1, p.2) (record { moves = tt; reads = loop-lost (record { is = c.requires.begins }) c.in_ok-a.ensures.reads (record { is = c.in_ok-to.ensures.found.1 }) c.in_err-b.ensures.reads })
+    rw (p.1, p.2) (record { moves = tt; reads = λ q b. loop-lost (record { is = b }) c.in_ok-a.ensures.reads (record { is = c.in_ok-to.ensures.found.1 }) c.in_err-b.ensures.reads })
 
 pub repetition-returns-in_err-to-2 : goal.repetition-returns-in_err-to-2
 repetition-returns-in_err-to-2 t c =
     let p = err_from_is_err_and c.from_residual-in_err-to-2.result c.from_residual-in_err-to-2.ensures.1 in
-    rw (p.1, p.2) (record { moves = tt; reads = while-end-lost (record { is = c.requires.begins }) c.in_ok-a.ensures.reads (record { is = c.in_ok-to.ensures.found.1 }) c.in_ok-b.ensures.reads c.in_err-to-2.ensures.found })
+    rw (p.1, p.2) (record { moves = tt; reads = λ q b. while-end-lost (record { is = b }) c.in_ok-a.ensures.reads (record { is = c.in_ok-to.ensures.found.1 }) c.in_ok-b.ensures.reads c.in_err-to-2.ensures.found })
 
 pub repetition-returns : goal.repetition-returns
 repetition-returns t c =
@@ -136,7 +135,7 @@ repetition-returns t c =
     let put = c.put.ensures.put in
     record {
       moves = while-moves c.requires.bounds ma ia mb ib put;
-      reads = while-made (record { is = c.requires.begins }) c.in_ok-a.ensures.reads (record { is = c.in_ok-to.ensures.found.1 }) c.in_ok-b.ensures.reads (record { is = c.in_ok-to-2.ensures.found.1 }) put ma mb (c.deeper.ensures ∙ ap around c.beside.ensures);
+      reads = λ q b. while-made (record { is = b }) c.in_ok-a.ensures.reads (record { is = c.in_ok-to.ensures.found.1 }) c.in_ok-b.ensures.reads (record { is = c.in_ok-to-2.ensures.found.1 }) put ma mb (c.deeper.ensures ∙ ap around c.beside.ensures);
     }
 
 -- creation
@@ -144,17 +143,17 @@ repetition-returns t c =
 pub creation-returns-in_err-class : goal.creation-returns-in_err-class
 creation-returns-in_err-class t c =
     let p = err_from_is_err_and c.from_residual.result c.from_residual.ensures.1 in
-    rw (p.1, p.2) (record { moves = tt; reads = class-lost (record { is = c.requires.begins }) c.in_err-class.ensures.found })
+    rw (p.1, p.2) (record { moves = tt; reads = λ q b. class-lost (record { is = b }) c.in_err-class.ensures.found })
 
 pub creation-returns-in_err-open : goal.creation-returns-in_err-open
 creation-returns-in_err-open t c =
     let p = err_from_is_err_and c.from_residual-in_err-open.result c.from_residual-in_err-open.ensures.1 in
-    rw (p.1, p.2) (record { moves = tt; reads = new-open-lost (record { is = c.requires.begins }) (record { is = c.in_ok-class.ensures.found }) c.in_err-open.ensures.found })
+    rw (p.1, p.2) (record { moves = tt; reads = λ q b. new-open-lost (record { is = b }) (record { is = c.in_ok-class.ensures.found }) c.in_err-open.ensures.found })
 
 pub creation-returns-in_err-given : goal.creation-returns-in_err-given
 creation-returns-in_err-given t c =
     let p = err_from_is_err_and c.from_residual-in_err-given.result c.from_residual-in_err-given.ensures.1 in
-    rw (p.1, p.2) (record { moves = tt; reads = new-args-lost (record { is = c.requires.begins }) (record { is = c.in_ok-class.ensures.found }) (record { is = c.in_ok-open.ensures.found.1 }) c.in_err-given.ensures.reads })
+    rw (p.1, p.2) (record { moves = tt; reads = λ q b. new-args-lost (record { is = b }) (record { is = c.in_ok-class.ensures.found }) (record { is = c.in_ok-open.ensures.found.1 }) c.in_err-given.ensures.reads })
 
 pub creation-returns : goal.creation-returns
 creation-returns t c =
@@ -164,7 +163,7 @@ creation-returns t c =
     let put = c.put.ensures.put in
     record {
       moves = new-moves c.requires.bounds ic io mg put;
-      reads = new-made (record { is = c.requires.begins }) (record { is = c.in_ok-class.ensures.found }) (record { is = c.in_ok-open.ensures.found.1 }) c.in_ok-given.ensures.reads put c.span.ensures.where_they_lie mg (omega arith) (omega arith) c.deeper.ensures;
+      reads = λ q b. new-made (record { is = b }) (record { is = c.in_ok-class.ensures.found }) (record { is = c.in_ok-open.ensures.found.1 }) c.in_ok-given.ensures.reads put c.span.ensures.where_they_lie mg (omega arith) (omega arith) c.deeper.ensures;
     }
 
 -- test
@@ -218,22 +217,54 @@ operand-loop-to-preserved t c =
     )
 
 -- primary
+pub primary-returns-in-Name : goal.primary-returns-in-Name
+primary-returns-in-Name t c =
+    let i = c.in-Some.ensures.inside in
+    record { moves = earlier i.0 c.local.ensures.moves; reads = c.local.ensures.reads c.args.at (shown-as c.args.self.bytes.now c.args.at c.in-Some.sight c.in-Some.ensures.shows c.in-Name.is) }
+
+pub primary-returns-in-Integer : goal.primary-returns-in-Integer
+primary-returns-in-Integer t c =
+    let i = c.in-Some.ensures.inside in
+    record { moves = earlier i.0 c.integer.ensures.moves; reads = c.integer.ensures.reads c.args.at (shown-as c.args.self.bytes.now c.args.at c.in-Some.sight c.in-Some.ensures.shows c.in-Integer.is) }
+
+pub primary-returns-in-Field : goal.primary-returns-in-Field
+primary-returns-in-Field t c =
+    let i = c.in-Some.ensures.inside in
+    record { moves = earlier i.0 c.field.ensures.moves; reads = c.field.ensures.reads c.args.at (shown-as c.args.self.bytes.now c.args.at c.in-Some.sight c.in-Some.ensures.shows c.in-Field.is) }
+
+pub primary-returns-in-Str : goal.primary-returns-in-Str
+primary-returns-in-Str t c =
+    let i = c.in-Some.ensures.inside in
+    record { moves = earlier i.0 c.string.ensures.moves; reads = c.string.ensures.reads c.args.at (shown-as c.args.self.bytes.now c.args.at c.in-Some.sight c.in-Some.ensures.shows c.in-Str.is) }
+
+pub primary-returns-in-Word : goal.primary-returns-in-Word
+primary-returns-in-Word t c =
+    let i = c.in-Some.ensures.inside in
+    record { moves = IfOk-weaker c.keyed.result _ _ (λ g m. earlier i.0 m) c.keyed.ensures.moves; reads = c.keyed.ensures.reads c.args.at (shown-as c.args.self.bytes.now c.args.at c.in-Some.sight c.in-Some.ensures.shows c.in-Word.is) }
+
 pub primary-returns-in-None : goal.primary-returns-in-None
 primary-returns-in-None t c = record { moves = tt; reads = end-lost c.in-None.ensures.shows }
 
 pub primary-returns-in-Sign : goal.primary-returns-in-Sign
-primary-returns-in-Sign t c =
-    let s = c.in-Some.sight in
-    record { moves = tt; reads = token-lost (record { is = c.in-Some.ensures.shows ∙ ap (λ z. shown c.args.self.bytes.now z s.from s.to) c.in-Sign.is }) (idle-sign _) }
+primary-returns-in-Sign t c = record { moves = tt; reads = token-lost (record { is = shown-as c.args.self.bytes.now c.args.at c.in-Some.sight c.in-Some.ensures.shows c.in-Sign.is }) (idle-sign _) }
 
 -- keyed
+pub keyed-returns-in-If : goal.keyed-returns-in-If
+keyed-returns-in-If t c = record { moves = c.conditional.ensures.moves; reads = λ q b. c.conditional.ensures.reads q (shown-as c.args.self.bytes.now q c.args.sight b (ap sort.Word c.in-If.is)) }
+
+pub keyed-returns-in-While : goal.keyed-returns-in-While
+keyed-returns-in-While t c = record { moves = c.repetition.ensures.moves; reads = λ q b. c.repetition.ensures.reads q (shown-as c.args.self.bytes.now q c.args.sight b (ap sort.Word c.in-While.is)) }
+
+pub keyed-returns-in-New : goal.keyed-returns-in-New
+keyed-returns-in-New t c = record { moves = c.creation.ensures.moves; reads = λ q b. c.creation.ensures.reads q (shown-as c.args.self.bytes.now q c.args.sight b (ap sort.Word c.in-New.is)) }
+
 pub keyed-returns-in-Nil : goal.keyed-returns-in-Nil
 keyed-returns-in-Nil t c =
     let s = c.args.sight in
     let put = c.leaf.ensures.put in
     record {
       moves = leaf-moves c.requires.few c.requires.bounds put;
-      reads = leaf-made (Expr.nil s.from) (record { is = c.requires.begins ∙ ap (λ z. shown c.args.self.bytes.now (sort.Word z) s.from s.to) c.in-Nil.is })
+      reads = λ q b. leaf-made (Expr.nil s.from) (record { is = shown-as c.args.self.bytes.now q c.args.sight b (ap sort.Word c.in-Nil.is) })
           (omega arith) (λ k. refl) (λ ns. refl) (λ u i. let z : ◌≡◌ {A = ℕ} 0 1 = cc in never z) refl put refl (plain-sized (Expr.nil s.from) refl refl tt (omega arith) (omega arith)) (λ ns k. k) (λ mem lies is. is);
     }
 
@@ -243,7 +274,7 @@ keyed-returns-in-SelfWord t c =
     let put = c.leaf-in-SelfWord.ensures.put in
     record {
       moves = leaf-moves c.requires.few c.requires.bounds put;
-      reads = leaf-made (Expr.self s.from) (record { is = c.requires.begins ∙ ap (λ z. shown c.args.self.bytes.now (sort.Word z) s.from s.to) c.in-SelfWord.is })
+      reads = λ q b. leaf-made (Expr.self s.from) (record { is = shown-as c.args.self.bytes.now q c.args.sight b (ap sort.Word c.in-SelfWord.is) })
           (omega arith) (λ k. refl) (λ ns. refl) (λ u i. let z : ◌≡◌ {A = ℕ} 0 1 = cc in never z) refl put refl (plain-sized (Expr.self s.from) refl refl tt (omega arith) (omega arith)) (λ ns k. k) (λ mem lies is. is);
     }
 
@@ -251,7 +282,7 @@ pub keyed-returns-in_default : goal.keyed-returns-in_default
 keyed-returns-in_default t c =
     record {
       moves = tt;
-      reads = token-lost (record { is = c.requires.begins }) (idle-word c.args.keyword c.in_default.not-If c.in_default.not-While c.in_default.not-New c.in_default.not-Nil c.in_default.not-SelfWord);
+      reads = λ q b. token-lost (record { is = b }) (idle-word c.args.keyword c.in_default.not-If c.in_default.not-While c.in_default.not-New c.in_default.not-Nil c.in_default.not-SelfWord);
     }
 
 -- arguments

@@ -6,16 +6,16 @@ abbrev pub decreases-arguments : goal.decreases-arguments
 decreases-arguments l = 9 * (length l.self.bytes.now - l.at) + 7
 
 abbrev pub decreases-conditional : goal.decreases-conditional
-decreases-conditional l = 9 * (length l.self.bytes.now - l.at) + 0
+decreases-conditional l = 9 * (length l.self.bytes.now - l.sight.to) + 7
 
 abbrev pub decreases-creation : goal.decreases-creation
-decreases-creation l = 9 * (length l.self.bytes.now - l.at) + 0
+decreases-creation l = 9 * (length l.self.bytes.now - l.sight.to) + 7
 
 abbrev pub decreases-item : goal.decreases-item
 decreases-item l = 9 * (length l.self.bytes.now - l.at) + 5
 
 abbrev pub decreases-keyed : goal.decreases-keyed
-decreases-keyed l = 9 * (length l.self.bytes.now - l.at) + 1
+decreases-keyed l = 9 * (length l.self.bytes.now - l.sight.to) + 8
 
 abbrev pub decreases-operand : goal.decreases-operand
 decreases-operand l = 9 * (length l.self.bytes.now - l.at) + 3
@@ -24,7 +24,7 @@ abbrev pub decreases-primary : goal.decreases-primary
 decreases-primary l = 9 * (length l.self.bytes.now - l.at) + 2
 
 abbrev pub decreases-repetition : goal.decreases-repetition
-decreases-repetition l = 9 * (length l.self.bytes.now - l.at) + 0
+decreases-repetition l = 9 * (length l.self.bytes.now - l.sight.to) + 7
 
 abbrev pub decreases-sequence : goal.decreases-sequence
 decreases-sequence l = 9 * (length l.self.bytes.now - l.at) + 6

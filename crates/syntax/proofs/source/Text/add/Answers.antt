@@ -1,4 +1,5 @@
-use Rattle.std.proofs.Common.{refl, ap, set, ◌∙◌}
+use Rattle.std.proofs.Common.{arith, refl, ap, set, ◌∙◌}
+use Rattle.syntax.proofs.Naming.{learnt-there}
 use Rattle.syntax.proofs.source.Text.add.Goals as goal
 
 pub returns : goal.returns
@@ -7,6 +8,6 @@ returns c = record {
     to_is = refl;
     many = c.with.ensures.counted;
     names = c.with.ensures.kept ∙ ap (set c.args.listed.parameters.names c.args.listed.parameters.count) c.span-name.ensures.where_they_lie;
-    named = c.learn.ensures.one_more_if_new;
+    named = learnt-there c.own.result c.args.sight.from c.args.sight.to (omega arith) (omega arith) (omega arith) c.own.ensures.where_they_lie c.learn.ensures.one_more_if_new;
   };
 }

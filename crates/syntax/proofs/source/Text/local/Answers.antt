@@ -2,13 +2,14 @@ use Rattle.std.proofs.Common.{refl, ap, arith}
 use Rattle.grammar.specs.Tree.{Expr}
 use Rattle.syntax.specs.Sight.{slice}
 use Rattle.syntax.specs.Parsing.{target_token}
+use Rattle.syntax.proofs.Naming.{learnt-there}
 use Rattle.syntax.proofs.Sizes.{plain-sized}
 use Rattle.syntax.proofs.Forms.{leaf-made, word-seen, some_same}
 use Rattle.syntax.proofs.source.Text.local.Goals as goal
 
 pub returns-clause-reads : goal.returns-clause-reads
-returns-clause-reads c =
+returns-clause-reads c p begins =
     let s = c.args.sight in
     let w = slice c.args.self.bytes.now s.from s.to in
-    leaf-made (Expr.local s.from w) (record { is = c.requires.begins }) (omega arith) (λ k. refl) (λ ns. refl) (λ u i. ap target_token (some_same i)) refl c.leaf.ensures.put refl (plain-sized (Expr.local s.from w) refl refl tt (omega arith) (omega arith)) c.learn.ensures.one_more_if_new.learns
+    leaf-made (Expr.local s.from w) (record { is = begins }) (omega arith) (λ k. refl) (λ ns. refl) (λ u i. ap target_token (some_same i)) refl c.leaf.ensures.put refl (plain-sized (Expr.local s.from w) refl refl tt (omega arith) (omega arith)) (learnt-there c.own.result s.from s.to (omega arith) (omega arith) (omega arith) c.own.ensures.where_they_lie c.learn.ensures.one_more_if_new).learns
     (λ mem lies is. (_, is, word-seen c.args.self.base s.from s.to c.span.ensures.where_they_lie (omega arith) (omega arith) mem lies))
