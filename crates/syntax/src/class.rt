@@ -25,7 +25,7 @@ use text::span::Span;
 impl Text<'_> {
     // One more parameter.
     fn add(self, names: &mut Stack<'_, Span>, listed: Listed, sight: Sight) -> Listed
-        requires inside { (sight.from ≤ sight.to) × (sight.to ≤ length self.bytes.now) }
+        requires inside { sight.to ≤ length self.bytes.now }
         requires few { listed.parameters.count < sight.to }
         ensures one_more { Adds self.entry.bytes.now self.entry.base names.old names.new listed sight.from sight.to result }
     {

@@ -173,7 +173,7 @@ impl Text<'_> {
         names: &mut Stack<'_, Span>,
     ) -> Result<Got, Stuck>
         requires few { nodes.old.count ≤ sight.from }
-        requires bounds { (sight.from < sight.to) × (sight.to ≤ length self.bytes.now) }
+        requires inside { sight.to ≤ length self.bytes.now }
         ensures moves { IfOk result (λ g. Moves self.entry.bytes.now sight.from nodes.old nodes.new g) }
         ensures reads { (p : ℕ) → left self.entry.bytes.now p ≡ shown self.entry.bytes.now (sort.Word keyword) sight.from sight.to → MatchResult result (λ g. Parsed 1 self.entry.bytes.now self.entry.base p nodes.old nodes.new names.old names.new g) (λ s. Refused 1 self.entry.bytes.now p s.0) }
     {
@@ -196,7 +196,7 @@ impl Text<'_> {
         names: &mut Stack<'_, Span>,
     ) -> Result<Got, Stuck>
         requires few { nodes.old.count ≤ sight.from }
-        requires bounds { (sight.from < sight.to) × (sight.to ≤ length self.bytes.now) }
+        requires inside { sight.to ≤ length self.bytes.now }
         ensures moves { IfOk result (λ g. Moves self.entry.bytes.now sight.from nodes.old nodes.new g) }
         ensures reads { (p : ℕ) → left self.entry.bytes.now p ≡ shown self.entry.bytes.now (sort.Word word.If) sight.from sight.to → MatchResult result (λ g. Parsed 1 self.entry.bytes.now self.entry.base p nodes.old nodes.new names.old names.new g) (λ s. Refused 1 self.entry.bytes.now p s.0) }
     {
@@ -227,7 +227,7 @@ impl Text<'_> {
         names: &mut Stack<'_, Span>,
     ) -> Result<Got, Stuck>
         requires few { nodes.old.count ≤ sight.from }
-        requires bounds { (sight.from < sight.to) × (sight.to ≤ length self.bytes.now) }
+        requires inside { sight.to ≤ length self.bytes.now }
         ensures moves { IfOk result (λ g. Moves self.entry.bytes.now sight.from nodes.old nodes.new g) }
         ensures reads { (p : ℕ) → left self.entry.bytes.now p ≡ shown self.entry.bytes.now (sort.Word word.While) sight.from sight.to → MatchResult result (λ g. Parsed 1 self.entry.bytes.now self.entry.base p nodes.old nodes.new names.old names.new g) (λ s. Refused 1 self.entry.bytes.now p s.0) }
     {
@@ -251,7 +251,7 @@ impl Text<'_> {
         names: &mut Stack<'_, Span>,
     ) -> Result<Got, Stuck>
         requires few { nodes.old.count ≤ sight.from }
-        requires bounds { (sight.from < sight.to) × (sight.to ≤ length self.bytes.now) }
+        requires inside { sight.to ≤ length self.bytes.now }
         ensures moves { IfOk result (λ g. Moves self.entry.bytes.now sight.from nodes.old nodes.new g) }
         ensures reads { (p : ℕ) → left self.entry.bytes.now p ≡ shown self.entry.bytes.now (sort.Word word.New) sight.from sight.to → MatchResult result (λ g. Parsed 1 self.entry.bytes.now self.entry.base p nodes.old nodes.new names.old names.new g) (λ s. Refused 1 self.entry.bytes.now p s.0) }
     {

@@ -25,7 +25,7 @@ impl Text<'_> {
         names: &mut Stack<'_, Span>,
     ) -> Got
         requires few { nodes.old.count ≤ sight.from }
-        requires bounds { (sight.from < sight.to) × (sight.to ≤ length self.bytes.now) }
+        requires inside { sight.to ≤ length self.bytes.now }
         ensures moves { Moves self.entry.bytes.now sight.from nodes.old nodes.new result }
         ensures reads { (p : ℕ) → left self.entry.bytes.now p ≡ shown self.entry.bytes.now sort.Name sight.from sight.to → Parsed 1 self.entry.bytes.now self.entry.base p nodes.old nodes.new names.old names.new result }
     {
@@ -40,7 +40,7 @@ impl Text<'_> {
         names: &mut Stack<'_, Span>,
     ) -> Got
         requires few { nodes.old.count ≤ sight.from }
-        requires bounds { (sight.from < sight.to) × (sight.to ≤ length self.bytes.now) }
+        requires inside { sight.to ≤ length self.bytes.now }
         ensures moves { Moves self.entry.bytes.now sight.from nodes.old nodes.new result }
         ensures reads { (p : ℕ) → left self.entry.bytes.now p ≡ shown self.entry.bytes.now sort.Integer sight.from sight.to → Parsed 1 self.entry.bytes.now self.entry.base p nodes.old nodes.new names.old names.new result }
     {
@@ -60,7 +60,7 @@ impl Text<'_> {
         names: &mut Stack<'_, Span>,
     ) -> Got
         requires few { nodes.old.count ≤ sight.from }
-        requires bounds { (sight.from < sight.to) × (sight.to ≤ length self.bytes.now) }
+        requires inside { sight.to ≤ length self.bytes.now }
         ensures moves { Moves self.entry.bytes.now sight.from nodes.old nodes.new result }
         ensures reads { (p : ℕ) → left self.entry.bytes.now p ≡ shown self.entry.bytes.now sort.Field sight.from sight.to → Parsed 1 self.entry.bytes.now self.entry.base p nodes.old nodes.new names.old names.new result }
     {
@@ -75,7 +75,7 @@ impl Text<'_> {
         names: &mut Stack<'_, Span>,
     ) -> Got
         requires few { nodes.old.count ≤ sight.from }
-        requires bounds { (sight.from < sight.to) × (sight.to ≤ length self.bytes.now) }
+        requires inside { sight.to ≤ length self.bytes.now }
         requires quoted { sight.from + 2 ≤ sight.to }
         ensures moves { Moves self.entry.bytes.now sight.from nodes.old nodes.new result }
         ensures reads { (p : ℕ) → left self.entry.bytes.now p ≡ shown self.entry.bytes.now sort.Str sight.from sight.to → Parsed 1 self.entry.bytes.now self.entry.base p nodes.old nodes.new names.old names.new result }

@@ -23,12 +23,14 @@ pub enum Sort {
     Sign(Symbol),
 }
 
-// A token's sort, and its bytes: `from` up to `to`.
+// A token's sort, and its bytes, of which it has some: `from` up to `to`. A string has its two quotes.
 #[derive(Clone, Copy)]
 pub struct Sight {
     pub sort: Sort,
     pub from: u16,
     pub to: u16,
+    ghost some: { from < to },
+    ghost quoted: { sort ≡ Str → from + 2 ≤ to },
 }
 
 impl From<Token<'_>> for Sort {
@@ -50,8 +52,7 @@ impl Text<'_> {
     // The next token from `at` on; none at the text's end.
     pub fn look(self, at: u16) -> Option<Sight>
         ensures shows { MatchOption result (left self.entry.bytes.now at ≡ []) (λ s. left self.entry.bytes.now at ≡ shown self.entry.bytes.now s.sort s.from s.to) }
-        ensures inside { IfSome result (λ s. (at ≤ s.from) × (s.from < s.to) × (s.to ≤ length self.entry.bytes.now)) }
-        ensures quoted { IfSome result (λ s. (s.sort ≡ Str → s.from + 2 ≤ s.to)) }
+        ensures inside { IfSome result (λ s. (at ≤ s.from) × (s.to ≤ length self.entry.bytes.now)) }
     {
         match next_token(self.bytes, at as usize) {
             Ok(Some(lexed)) => Some(Sight {
@@ -99,7 +100,7 @@ impl Text<'_> {
     // The name that has to come.
     pub fn name(self, at: u16) -> Result<Sight, Stuck>
         ensures found { MatchResult result (λ s. left self.entry.bytes.now at ≡ shown self.entry.bytes.now Name s.from s.to) (λ s. (s.0 ≡ first (length self.entry.bytes.now) (places self.entry.bytes.now at)) × (head_sort (terms self.entry.bytes.now at) ≢ Some Name)) }
-        ensures inside { IfOk result (λ s. (at ≤ s.from) × (s.from < s.to) × (s.to ≤ length self.entry.bytes.now)) }
+        ensures inside { IfOk result (λ s. (at ≤ s.from) × (s.to ≤ length self.entry.bytes.now)) }
     {
         match self.look(at) {
             Some(sight) => match sight.sort {

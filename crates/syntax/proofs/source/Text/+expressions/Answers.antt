@@ -99,7 +99,7 @@ conditional-returns t c =
     let ic = c.in_ok-to-3.ensures.inside in
     let put = c.put.ensures.put in
     record {
-      moves = if-moves c.requires.bounds ma ia mb ib mc ic put;
+      moves = if-moves (c.args.sight.some, c.requires.inside) ma ia mb ib mc ic put;
       reads = λ q b. if-made (record { is = b }) c.in_ok-a.ensures.reads (record { is = c.in_ok-to.ensures.found.1 }) c.in_ok-b.ensures.reads (record { is = c.in_ok-to-2.ensures.found.1 }) c.in_ok-c.ensures.reads (record { is = c.in_ok-to-3.ensures.found.1 }) put ma mb mc
           (c.deeper.ensures ∙ ap around (c.beside-2.ensures ∙ ap (side_by_side c.in_ok-a.a.size) c.beside.ensures));
     }
@@ -134,7 +134,7 @@ repetition-returns t c =
     let ib = c.in_ok-to-2.ensures.inside in
     let put = c.put.ensures.put in
     record {
-      moves = while-moves c.requires.bounds ma ia mb ib put;
+      moves = while-moves (c.args.sight.some, c.requires.inside) ma ia mb ib put;
       reads = λ q b. while-made (record { is = b }) c.in_ok-a.ensures.reads (record { is = c.in_ok-to.ensures.found.1 }) c.in_ok-b.ensures.reads (record { is = c.in_ok-to-2.ensures.found.1 }) put ma mb (c.deeper.ensures ∙ ap around c.beside.ensures);
     }
 
@@ -162,7 +162,7 @@ creation-returns t c =
     let mg = c.in_ok-given.ensures.moves in
     let put = c.put.ensures.put in
     record {
-      moves = new-moves c.requires.bounds ic io mg put;
+      moves = new-moves (c.args.sight.some, c.requires.inside) (ic.0, c.in_ok-class.class.some, ic.1) io mg put;
       reads = λ q b. new-made (record { is = b }) (record { is = c.in_ok-class.ensures.found }) (record { is = c.in_ok-open.ensures.found.1 }) c.in_ok-given.ensures.reads put c.span.ensures.where_they_lie mg (omega arith) (omega arith) c.deeper.ensures;
     }
 
@@ -180,7 +180,7 @@ test-loop-to-preserved t c =
     let ic = c.in_ok-class.ensures.inside in
     let mg = c.loop-to.invariant.0 in
     let put = c.put-g.ensures.put in (
-      test-moves mg i ic put,
+      test-moves mg i (ic.0, c.in_ok-class.class.some, ic.1) put,
       test-made c.loop-to.invariant.1.parsed (record { is = c.in-Some.ensures.found.1 }) (record { is = c.in_ok-class.ensures.found }) put c.span.ensures.where_they_lie mg (omega arith) (omega arith) c.deeper.ensures,
     )
 
@@ -212,7 +212,7 @@ operand-loop-to-preserved t c =
     let mg = c.loop-to.invariant.0 in
     let mx = c.in_ok-given.ensures.moves in
     let put = c.put-g.ensures.put in (
-      call-moves mg i im io mx put,
+      call-moves mg i (im.0, c.in_ok-method.method.some, im.1) io mx put,
       call-made c.loop-to.invariant.1 (record { is = c.in-Some.ensures.found.1 }) (record { is = c.in_ok-method.ensures.found }) (record { is = c.in_ok-open.ensures.found.1 }) c.in_ok-given.ensures.reads put c.span.ensures.where_they_lie mg mx (omega arith) (omega arith) (c.deeper.ensures ∙ ap around c.beside.ensures),
     )
 
@@ -263,7 +263,7 @@ keyed-returns-in-Nil t c =
     let s = c.args.sight in
     let put = c.leaf.ensures.put in
     record {
-      moves = leaf-moves c.requires.few c.requires.bounds put;
+      moves = leaf-moves c.requires.few (c.args.sight.some, c.requires.inside) put;
       reads = λ q b. leaf-made (Expr.nil s.from) (record { is = shown-as c.args.self.bytes.now q c.args.sight b (ap sort.Word c.in-Nil.is) })
           (omega arith) (λ k. refl) (λ ns. refl) (λ u i. let z : ◌≡◌ {A = ℕ} 0 1 = cc in never z) refl put refl (plain-sized (Expr.nil s.from) refl refl tt (omega arith) (omega arith)) (λ ns k. k) (λ mem lies is. is);
     }
@@ -273,7 +273,7 @@ keyed-returns-in-SelfWord t c =
     let s = c.args.sight in
     let put = c.leaf-in-SelfWord.ensures.put in
     record {
-      moves = leaf-moves c.requires.few c.requires.bounds put;
+      moves = leaf-moves c.requires.few (c.args.sight.some, c.requires.inside) put;
       reads = λ q b. leaf-made (Expr.self s.from) (record { is = shown-as c.args.self.bytes.now q c.args.sight b (ap sort.Word c.in-SelfWord.is) })
           (omega arith) (λ k. refl) (λ ns. refl) (λ u i. let z : ◌≡◌ {A = ℕ} 0 1 = cc in never z) refl put refl (plain-sized (Expr.self s.from) refl refl tt (omega arith) (omega arith)) (λ ns k. k) (λ mem lies is. is);
     }

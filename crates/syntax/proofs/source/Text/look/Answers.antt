@@ -11,8 +11,8 @@ returns-in-Ok-Some-clause-shows c =
     left-shown c.args.self.bytes.now c.args.at (terminal l.token) l.from l.to (ap found (sym c.in-Ok-Some.field-0-is) ∙ c.in-Ok-Some.ensures.the_next)
     ∙ ap (λ s. shown c.args.self.bytes.now s l.from l.to) (sym c.from.ensures)
 
-pub returns-in-Ok-Some-clause-quoted : goal.returns-in-Ok-Some-clause-quoted
-returns-in-Ok-Some-clause-quoted c =
+pub invariant_of-result-clause-quoted : goal.invariant_of-result-clause-quoted
+invariant_of-result-clause-quoted c =
     let l = c.in-Ok-Some.lexed in
     λ e. quoted-bytes c.args.self.bytes.now c.args.at (terminal l.token) l.from l.to (ap found (sym c.in-Ok-Some.field-0-is) ∙ c.in-Ok-Some.ensures.the_next) (sym c.from.ensures ∙ e)
 
