@@ -1,3 +1,4 @@
 pub mod Walking
 pub mod Chaining
 pub mod Storing
+pub mod Appending

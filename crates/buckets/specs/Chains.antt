@@ -23,6 +23,10 @@ first_at cs b = (slice_index_or cs b unlinked).first
 abbrev pub last_at : List Chain → ℕ → ℕ
 last_at cs b = (slice_index_or cs b unlinked).last
 
+-- the bucket's chain begins with an entry of the bucket
+abbrev pub Begun : List Chained → List Chain → ℕ → ℕ → Type 0
+Begun es cs len b = (first_at cs b < len) × (bucket_at es (first_at cs b) ≡ b)
+
 -- Below, bk and nx give an entry's bucket and next, fs and ls a bucket's first and last.
 -- an entry's chain begins with an entry of its bucket, at the entry or before it
 abbrev pub Firsts : (ℕ → ℕ) → (ℕ → ℕ) → ℕ → Type 0

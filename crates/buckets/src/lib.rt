@@ -1,7 +1,7 @@
 // The bucket store: a search looks only at the pairs whose keys have the same number.
 #![tactic(auto)]
 
-ghost use Rattle.std.specs.Prelude.{◌≡◌, ℕ, ◌<◌, ◌≤◌, min, [], length, take, IfSome, if◌then◌else◌, None, Decides, nat_eq};
+ghost use Rattle.std.specs.Prelude.{◌≡◌, ℕ, ◌<◌, ◌≤◌, min, [], length, take, IfSome, if◌then◌else◌, None, nat_eq};
 ghost use Rattle.text.specs.Memory.{Memory, memory_of};
 ghost use Rattle.text.specs.First.{first_place};
 ghost use Rattle.store.specs.Limits.{most_pairs};
@@ -12,7 +12,6 @@ ghost use Rattle.buckets.specs.Chains.{bucket_at, next_at, first_at, last_at, Fi
 ghost use Rattle.buckets.specs.Stored.{InPlace, Holds, Inside};
 
 use crate::number::bucket_of;
-use crate::walk::{begins, walk};
 use store::capacity::Capacity;
 use store::count::TableCount;
 use store::key::Key;
@@ -41,6 +40,7 @@ pub struct Chain {
 
 #[derive(Drop)]
 pub struct BucketStore<'e, 'c> {
+    // no `Stack`: an entry counts only once its chain names it, and the two change together
     entries: &'e mut [Chained],
     chains: &'c mut [Chain],
     len: usize,
@@ -68,7 +68,7 @@ impl<'e, 'c> BucketStore<'e, 'c> {
         ensures tables { result.tables.most ≡ capacity.tables }
         ensures room { result.room ≡ (if nat_eq (length chains.old) 0 then 0 else min capacity.pairs (length entries.old)) }
     {
-        let room = if chains.len() == 0 {
+        let room = if chains.is_empty() {
             0
         } else {
             entries.len().min(capacity.pairs() as usize)
@@ -91,7 +91,7 @@ impl<'e, 'c> BucketStore<'e, 'c> {
             return None;
         }
         let bucket = bucket_of(key, self.chains.len(), bytes);
-        walk(self.entries, self.chains, self.len, bucket, &key, bytes)
+        self.walk(bucket, &key, bytes)
     }
 
     // A new key goes behind the others, and to the end of its chain.
@@ -104,39 +104,22 @@ impl<'e, 'c> BucketStore<'e, 'c> {
     {
         let end = self.len;
         let bucket = bucket_of(key, self.chains.len(), bytes);
-        let chain = self.chains[bucket];
-        if self.begun(chain, bucket) {
-            self.entries[chain.last].next = end;
-            self.entries[end] = Chained {
-                key,
-                value,
-                bucket,
-                next: end,
-            };
-            self.chains[bucket] = Chain {
-                first: chain.first,
-                last: end,
-            };
-            self.len = end + 1;
-        } else {
-            self.entries[end] = Chained {
-                key,
-                value,
-                bucket,
-                next: end,
-            };
-            self.chains[bucket] = Chain {
-                first: end,
-                last: end,
-            };
-            self.len = end + 1;
-        }
-    }
-
-    fn begun(&self, chain: Chain, bucket: usize) -> bool
-        ensures { Decides result ((chain.first < self.now.len) × (bucket_at self.now.entries.now chain.first ≡ bucket)) }
-    {
-        begins(self.entries, chain, self.len, bucket)
+        let chain = self.chain_of(bucket).unwrap_or(Chain {
+            first: end,
+            last: end,
+        });
+        self.entries[chain.last].next = end;
+        self.entries[end] = Chained {
+            key,
+            value,
+            bucket,
+            next: end,
+        };
+        self.chains[bucket] = Chain {
+            first: chain.first,
+            last: end,
+        };
+        self.len = end + 1;
     }
 }
 
