@@ -13,8 +13,8 @@ use text::span::{Space, Span};
 // The bytes of a text, and where it begins in the memory that its names are spans of.
 #[derive(Clone, Copy)]
 pub struct Text<'t> {
-    pub(crate) bytes: &'t [u8],
-    base: u16,
+    pub bytes: &'t [u8],
+    pub base: u16,
     ghost short: { length bytes.now ≤ text_limit },
 }
 

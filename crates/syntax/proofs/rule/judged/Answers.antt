@@ -1,13 +1,12 @@
 use Rattle.std.proofs.Common.{sym, ◌∙◌}
-use Rattle.std.proofs.lemmas.Result.{err_from_is_err_and}
+use Rattle.syntax.proofs.Reading.{handed}
 use Rattle.syntax.proofs.Texts.{rule-judged, breaks}
 use Rattle.syntax.proofs.rule.judged.Goals as goal
 
 pub returns-in_err-rule : goal.returns-in_err-rule
 returns-in_err-rule c =
     let t = c.in_ok-text.ensures in
-    let p = err_from_is_err_and c.from_residual-in_err-rule.result c.from_residual-in_err-rule.ensures.1 in
-    rw (p.1, p.2) (record { the_one_tree_or_the_refusal = breaks t.same.0 t.lexed c.in_err-rule.ensures.reads })
+    rw (handed c.from_residual-in_err-rule.result c.from_residual-in_err-rule.ensures.1) (record { the_one_tree_or_the_refusal = breaks t.same.0 t.lexed c.in_err-rule.ensures.reads })
 
 pub returns : goal.returns
 returns c =

@@ -1,5 +1,5 @@
 use Rattle.std.proofs.Common.{ap, arith}
-use Rattle.std.proofs.lemmas.Result.{err_from_is_err_and}
+use Rattle.syntax.proofs.Reading.{handed}
 use Rattle.syntax.proofs.Methods.{no-parameters-made, first-listed, parameters-lost, parameters-close-lost, parameters-made, next-parameter-lost, next-listed}
 use Rattle.syntax.proofs.source.Text.parameters.Goals as goal
 
@@ -10,18 +10,15 @@ returns-in-Some c =
 
 pub returns-in_err-first : goal.returns-in_err-first
 returns-in_err-first c =
-    let p = err_from_is_err_and c.from_residual.result c.from_residual.ensures.1 in
-    rw (p.1, p.2) (record { moves = tt; reads = parameters-lost c.in_default.ensures.found c.in_err-first.ensures.found })
+    rw (handed c.from_residual.result c.from_residual.ensures.1) (record { moves = tt; reads = parameters-lost c.in_default.ensures.found c.in_err-first.ensures.found })
 
 pub returns-in_err-next : goal.returns-in_err-next
 returns-in_err-next c =
-    let p = err_from_is_err_and c.from_residual-in_err-next.result c.from_residual-in_err-next.ensures.1 in
-    rw (p.1, p.2) (record { moves = tt; reads = next-parameter-lost c.loop-to.invariant.3 (record { is = c.in-Some-after.ensures.found.1 }) c.in_err-next.ensures.found })
+    rw (handed c.from_residual-in_err-next.result c.from_residual-in_err-next.ensures.1) (record { moves = tt; reads = next-parameter-lost c.loop-to.invariant.3 (record { is = c.in-Some-after.ensures.found.1 }) c.in_err-next.ensures.found })
 
 pub returns-in_err-to : goal.returns-in_err-to
 returns-in_err-to c =
-    let p = err_from_is_err_and c.from_residual-in_err-to.result c.from_residual-in_err-to.ensures.1 in
-    rw (p.1, p.2) (record { moves = tt; reads = parameters-close-lost c.loop-to.invariant.3 c.in_default-after.ensures.found c.in_err-to.ensures.found })
+    rw (handed c.from_residual-in_err-to.result c.from_residual-in_err-to.ensures.1) (record { moves = tt; reads = parameters-close-lost c.loop-to.invariant.3 c.in_default-after.ensures.found c.in_err-to.ensures.found })
 
 pub loop-to-init : goal.loop-to-init
 loop-to-init c =
