@@ -1,4 +1,4 @@
-use Rattle.std.proofs.Common.{sym, ◌∙◌}
+use Rattle.std.proofs.Common.{rules, sym, ◌∙◌}
 use Rattle.syntax.proofs.Reading.{handed}
 use Rattle.syntax.proofs.Texts.{class-judged, breaks}
 use Rattle.syntax.proofs.class.judged.Goals as goal
@@ -12,4 +12,6 @@ pub returns : goal.returns
 returns c =
     let M = c.in_ok-class.ensures.reads in
     let t = c.in_ok-text.ensures in
-    record { the_one_tree_or_the_refusal = class-judged t.same (c.nodes-2-1.given.1.1 (sym (M.read.lenders.0 ∙ c.new-nodes.ensures.lender))) (c.methods-2-1.given.1.1 (sym (M.read.lenders.1 ∙ c.new-methods.ensures.lender))) t.lexed M }
+    let n = sym (M.read.lenders.0 ∙ c.new-nodes.ensures.lender) in
+    let m = sym (M.read.lenders.1 ∙ c.new-methods.ensures.lender) in
+    record { the_one_tree_or_the_refusal = class-judged t.same (search (rules, n)) (search (rules, m)) t.lexed M }

@@ -1,4 +1,4 @@
-use Rattle.std.proofs.Common.{sym, ◌∙◌}
+use Rattle.std.proofs.Common.{rules, sym, ◌∙◌}
 use Rattle.syntax.proofs.Reading.{handed}
 use Rattle.syntax.proofs.Texts.{rule-judged, breaks}
 use Rattle.syntax.proofs.rule.judged.Goals as goal
@@ -12,4 +12,5 @@ pub returns : goal.returns
 returns c =
     let M = c.in_ok-rule.ensures.reads in
     let t = c.in_ok-text.ensures in
-    record { the_one_tree_or_the_refusal = rule-judged t.same (c.nodes-2-1.given.1.1 (sym (M.read.lender ∙ c.new-nodes.ensures.lender))) t.lexed M }
+    let n = sym (M.read.lender ∙ c.new-nodes.ensures.lender) in
+    record { the_one_tree_or_the_refusal = rule-judged t.same (search (rules, n)) t.lexed M }

@@ -222,8 +222,8 @@ primary-returns-in-Word t c =
     let i = c.in-Some.ensures.inside in
     record { moves = IfOk-weaker c.keyed.result _ _ (λ g m. earlier i.0 m) c.keyed.ensures.moves; reads = c.keyed.ensures.reads c.args.at (shown-as c.args.self.bytes.now c.args.at c.in-Some.sight c.in-Some.ensures.shows c.in-Word.is) }
 
-pub primary-returns-in-None : goal.primary-returns-in-None
-primary-returns-in-None t c = record { moves = tt; reads = end-lost c.in-None.ensures.shows }
+pub primary-returns-in_default : goal.primary-returns-in_default
+primary-returns-in_default t c = record { moves = tt; reads = end-lost c.in_default.ensures.shows }
 
 pub primary-returns-in-Sign : goal.primary-returns-in-Sign
 primary-returns-in-Sign t c = record { moves = tt; reads = token-lost (record { is = shown-as c.args.self.bytes.now c.args.at c.in-Some.sight c.in-Some.ensures.shows c.in-Sign.is }) (idle-sign _) }
@@ -271,8 +271,8 @@ arguments-returns-in-Some t c =
     let i = c.in-Some.ensures.inside in
     let d = c.closed.ensures.as_given in
     record {
-      moves = none_moves (ap (λ z. z.arguments.count) c.none-none.ensures) c.requires.few i d;
-      reads = none_made (record { is = c.in-Some.ensures.found.1 }) c.none-none.ensures d;
+      moves = none_moves (ap (λ z. z.arguments.count) c.none-none.ensures.none) c.requires.few i d;
+      reads = none_made (record { is = c.in-Some.ensures.found.1 }) c.none-none.ensures.none d;
     }
 
 pub arguments-returns-in_err-e : goal.arguments-returns-in_err-e
@@ -293,8 +293,8 @@ pub arguments-loop-to-init : goal.arguments-loop-to-init
 arguments-loop-to-init t c =
     let me = c.in_ok-e.ensures.moves in
     let w = c.with-given.ensures.one_more in (
-      first-moves (ap (λ z. z.arguments.count) c.none-none.ensures) me w,
-      first_made c.in_default.ensures.found c.none-none.ensures c.in_ok-e.ensures.reads w me,
+      first-moves (ap (λ z. z.arguments.count) c.none-none.ensures.none) me w,
+      first_made c.in_default.ensures.found c.none-none.ensures.none c.in_ok-e.ensures.reads w me,
     )
 
 pub arguments-loop-to-preserved : goal.arguments-loop-to-preserved

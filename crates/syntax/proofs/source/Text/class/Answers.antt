@@ -39,4 +39,4 @@ pub returns : goal.returns
 returns c =
     let i = c.in_ok-called.ensures.inside in
     let j = c.in_ok-parent.ensures.inside in
-    record { reads = class-made (record { is = c.in_ok-to.ensures.found.1 }) (record { is = c.in_ok-called.ensures.found }) (record { is = c.in_ok-to-2.ensures.found.1 }) (record { is = c.in_ok-parent.ensures.found }) (record { is = c.in_ok-to-3.ensures.found.1 }) c.in_ok-all.ensures.reads.0 (record { is = c.in_ok-to-4.ensures.found.1 }) c.in_ok-end.ensures.found c.span.ensures.where_they_lie c.span-2.ensures.where_they_lie (omega arith) (omega arith) (omega arith) (omega arith) c.count-2.ensures c.count.ensures }
+    record { reads = class-made (record { is = c.in_ok-to.ensures.found.1 }) (record { is = c.in_ok-called.ensures.found }) (record { is = c.in_ok-to-2.ensures.found.1 }) (record { is = c.in_ok-parent.ensures.found }) (record { is = c.in_ok-to-3.ensures.found.1 }) c.in_ok-all.ensures.reads.0 (record { is = c.in_ok-to-4.ensures.found.1 }) c.in_ok-end.ensures.found c.span.ensures.where_they_lie c.span-2.ensures.where_they_lie (omega arith) (omega arith) (omega arith) (omega arith) c.count-2.ensures.counted c.count.ensures.counted }

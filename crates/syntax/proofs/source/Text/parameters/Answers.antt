@@ -6,7 +6,7 @@ use Rattle.syntax.proofs.source.Text.parameters.Goals as goal
 pub returns-in-Some : goal.returns-in-Some
 returns-in-Some c =
     let i = c.in-Some.ensures.inside in
-    record { moves = (omega arith, omega arith); reads = no-parameters-made (record { is = c.in-Some.ensures.found.1 }) (ap (λ z. record { to = c.in-Some.to; parameters = z }) c.none-none.ensures) }
+    record { moves = (omega arith, omega arith); reads = no-parameters-made (record { is = c.in-Some.ensures.found.1 }) (ap (λ z. record { to = c.in-Some.to; parameters = z }) c.default-none.ensures) }
 
 pub returns-in_err-first : goal.returns-in_err-first
 returns-in_err-first c =
@@ -24,10 +24,10 @@ pub loop-to-init : goal.loop-to-init
 loop-to-init c =
     let i = c.in_ok-first.ensures.inside in
     let d = c.add-listed.ensures.one_more in
-    let e = ap (λ z. z.count) c.none-none.ensures in
+    let e = ap (λ z. z.count) c.default-none.ensures in
     let t = d.to_is in
     let m = d.many in
-    (omega arith, omega arith, omega arith, first-listed (record { is = c.in_ok-first.ensures.found }) (ap (λ z. record { to = c.args.at; parameters = z }) c.none-none.ensures) d (omega arith) (omega arith))
+    (omega arith, omega arith, omega arith, first-listed (record { is = c.in_ok-first.ensures.found }) (ap (λ z. record { to = c.args.at; parameters = z }) c.default-none.ensures) d (omega arith) (omega arith))
 
 pub loop-to-preserved : goal.loop-to-preserved
 loop-to-preserved c =
