@@ -2,36 +2,32 @@
 ghost use Rattle.std.specs.Prelude.{◌≡◌, ◌+◌, ◌-◌, ◌^◌, ◌<◌, ◌≤◌, [], ◌∷◌, length, take, slice_set};
 ghost use Rattle.nodes.specs.Methods.{no_span};
 
-use text::span::{Space, Span};
+use text::span::Span;
 
 // How many arguments of a call are kept, and how many parameters of a method.
 pub const ARGUMENTS: u16 = 4;
 
-// A name of no bytes.
-pub const NO_NAME: Span = Span {
-    space: Space::Texts,
-    start: 0,
-    len: 0,
-};
-
 // The arguments of a call: how many there are, and where the first four stand.
-// (A struct for this and for parameters would need an array of a type parameter, which no generic struct has.)
+// (No ArrayVec: a Form is Copy, which that is not, and the count goes on beyond four. Parameters are alike, and no generic struct has an array of a type parameter.)
 #[derive(Clone, Copy)]
 pub struct Arguments {
     pub count: u16,
     pub roots: [u16; 4],
 }
 
-impl Arguments {
-    pub fn none() -> Arguments
-        ensures { result ≡ record { count = 0; roots = 0 ∷ 0 ∷ 0 ∷ 0 ∷ [] } }
-    {
+// No argument. (Derived, it would not say that all four roots are 0 as one list.)
+impl Default for Arguments {
+    ghost is_default = { λ a. a ≡ record { count = 0; roots = 0 ∷ 0 ∷ 0 ∷ 0 ∷ [] } };
+
+    fn default() -> Arguments {
         Arguments {
             count: 0,
             roots: [0; 4],
         }
     }
+}
 
+impl Arguments {
     // One more argument; only the first four are kept.
     pub fn with(self, root: u16) -> Arguments
         requires { self.count < 2 ^ 16 - 1 }
@@ -39,8 +35,9 @@ impl Arguments {
         ensures kept { result.roots ≡ slice_set self.roots self.count root }
     {
         let mut roots = self.roots;
-        if self.count < ARGUMENTS {
-            roots[self.count as usize] = root;
+        let at = usize::from(self.count);
+        if at < roots.len() {
+            roots[at] = root;
         }
         Arguments {
             count: self.count + 1,
@@ -53,7 +50,7 @@ impl Arguments {
         ensures the_first { result.now ≡ take self.now.count self.now.roots }
         ensures at_most_four { length result.now ≤ 4 }
     {
-        &self.roots[..self.count.min(ARGUMENTS) as usize]
+        &self.roots[..usize::from(self.count.min(ARGUMENTS))]
     }
 }
 
@@ -97,16 +94,19 @@ pub struct Parameters {
     pub names: [Span; 4],
 }
 
-impl Parameters {
-    pub fn none() -> Parameters
-        ensures { result ≡ record { count = 0; names = no_span ∷ no_span ∷ no_span ∷ no_span ∷ [] } }
-    {
+// No parameter.
+impl Default for Parameters {
+    ghost is_default = { λ p. p ≡ record { count = 0; names = no_span ∷ no_span ∷ no_span ∷ no_span ∷ [] } };
+
+    fn default() -> Parameters {
         Parameters {
             count: 0,
-            names: [NO_NAME; 4],
+            names: [Span::default(); 4],
         }
     }
+}
 
+impl Parameters {
     // One more parameter; only the names of the first four are kept.
     pub fn with(self, name: Span) -> Parameters
         requires { self.count < 2 ^ 16 - 1 }
@@ -114,8 +114,9 @@ impl Parameters {
         ensures kept { result.names ≡ slice_set self.names self.count name }
     {
         let mut names = self.names;
-        if self.count < ARGUMENTS {
-            names[self.count as usize] = name;
+        let at = usize::from(self.count);
+        if at < names.len() {
+            names[at] = name;
         }
         Parameters {
             count: self.count + 1,
@@ -127,26 +128,16 @@ impl Parameters {
     pub fn kept(&self) -> &[Span]
         ensures the_first { result.now ≡ take self.now.count self.now.names }
     {
-        &self.names[..self.count.min(ARGUMENTS) as usize]
+        &self.names[..usize::from(self.count.min(ARGUMENTS))]
     }
 }
 
 // A method: its name, its parameters, and the root of its body.
-#[derive(Clone, Copy)]
+#[derive(Clone, Copy, Default)]
 pub struct Method {
     pub name: Span,
     pub parameters: Parameters,
     pub root: u16,
-}
-
-impl Default for Method {
-    fn default() -> Method {
-        Method {
-            name: NO_NAME,
-            parameters: Parameters::none(),
-            root: 0,
-        }
-    }
 }
 
 // A class: its name, its parent's, how many methods are recorded, and how many nodes their bodies have.

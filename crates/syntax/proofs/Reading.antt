@@ -1,5 +1,6 @@
 -- The machine's way over the tokens of a text, part by part.
-use Rattle.std.proofs.Common.{◌≡◌, ℕ, ◌+◌, ◌≤◌, List, [], ◌∷◌, map, length, drop, Some, sym, refl, ap, ◌∙◌, arith}
+use Rattle.std.proofs.Common.{◌≡◌, ℕ, ◌+◌, ◌≤◌, List, [], ◌∷◌, map, length, drop, Ok, Err, Result, Some, sym, refl, ap, ◌∙◌, arith}
+use Rattle.std.specs.Result.{IsErrAnd}
 use mathlib.Core.Option.{some}
 use Rattle.std.proofs.lemmas.List.{drop-drop}
 use Rattle.lexer.specs.Token.{Terminal, identifier}
@@ -24,6 +25,11 @@ pub record Sees (text : List ℕ) (p : ℕ) (t : Terminal) (f q : ℕ) : Type 0 
 -- a token of the sort that it was found to be
 pub shown-as : (text : List ℕ) (p : ℕ) (x : Sight) {r s : Sort} → left text p ≡ shown text r x.from x.to → r ≡ s → left text p ≡ shown text s x.from x.to
 shown-as text p x e i = e ∙ ap (λ z. shown text z x.from x.to) i
+
+-- a refusal that `?` hands on
+pub handed : {T E : Type 0} {e : E} (r : Result T E) → IsErrAnd r (λ y. y ≡ e) → r ≡ Err e
+handed (Err y) h = ap Err h
+handed (Ok x) h = absurd h
 
 pub roomy : (k : Context) → item ≤ room k
 roomy Context.whole = omega arith

@@ -17,7 +17,7 @@ use crate::sight::{Sight, Sort};
 use crate::source::Text;
 use crate::table::Table;
 use lexer::token::{Keyword, Symbol};
-use nodes::node::{Class, Method, NO_NAME, Node, Parameters};
+use nodes::node::{Class, Method, Node, Parameters};
 use nodes::refusal::Refusal;
 use stack::Stack;
 use text::span::Span;
@@ -42,7 +42,7 @@ impl Text<'_> {
         ensures moves { IfOk result (λ g. (at < g.to) × (g.to ≤ length self.entry.bytes.now)) }
         ensures reads { MatchResult result (λ g. ParametersRead self.entry.bytes.now self.entry.base at names.old names.new g) (λ s. ParametersRefused self.entry.bytes.now at s.0) }
     {
-        let none = Parameters::none();
+        let none = Parameters::default();
         if let Some(to) = self.after(at, Sort::Sign(Symbol::CloseParen)) {
             return Ok(Listed {
                 to,
@@ -72,7 +72,7 @@ impl Text<'_> {
         ensures moves { IfOk result (λ g. (at < g.read.to) × (g.read.to ≤ length self.entry.bytes.now) × (nodes.old.count < nodes.new.count) × (nodes.new.count ≤ g.read.to)) }
         ensures reads { MatchResult result (λ g. MethodMeasured self.entry.bytes.now self.entry.base at nodes.old nodes.new g) (λ s. MethodRefused self.entry.bytes.now at s.0) }
     {
-        let mut spans = [NO_NAME; NAMES + 1];
+        let mut spans = [Span::default(); NAMES + 1];
         let mut names = Stack::new(&mut spans);
         let called = self.name(at)?;
         let open = self.expect(called.to, Sort::Sign(Symbol::OpenParen))?;

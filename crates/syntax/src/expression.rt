@@ -150,16 +150,16 @@ impl Text<'_> {
         ensures moves { IfOk result (λ g. Moves self.entry.bytes.now at nodes.old nodes.new g) }
         ensures reads { MatchResult result (λ g. Parsed 1 self.entry.bytes.now self.entry.base at nodes.old nodes.new names.old names.new g) (λ s. Refused 1 self.entry.bytes.now at s.0) }
     {
-        match self.look(at) {
-            Some(sight) => match sight.sort {
-                Sort::Name => Ok(self.local(sight, nodes, names)),
-                Sort::Integer => Ok(self.integer(sight, nodes, names)),
-                Sort::Field => Ok(self.field(sight, nodes, names)),
-                Sort::Str => Ok(self.string(sight, nodes, names)),
-                Sort::Word(keyword) => self.keyed(sight, keyword, nodes, names),
-                Sort::Sign(_) => Err(Stuck(sight.from)),
-            },
-            None => Err(Stuck(self.bytes.len() as u16)),
+        let Some(sight) = self.look(at) else {
+            return Err(Stuck(self.bytes.len() as u16));
+        };
+        match sight.sort {
+            Sort::Name => Ok(self.local(sight, nodes, names)),
+            Sort::Integer => Ok(self.integer(sight, nodes, names)),
+            Sort::Field => Ok(self.field(sight, nodes, names)),
+            Sort::Str => Ok(self.string(sight, nodes, names)),
+            Sort::Word(keyword) => self.keyed(sight, keyword, nodes, names),
+            Sort::Sign(_) => Err(Stuck(sight.from)),
         }
     }
 

@@ -1,18 +1,17 @@
 // The value of an integer's bytes.
-ghost use Rattle.std.specs.Prelude.{◌≡◌, min, MatchOption};
+ghost use Rattle.std.specs.Prelude.{◌≡◌, ◌^◌, ◌≤◌, MatchOption};
 ghost use Rattle.grammar.specs.Measure.{digits_from, value_of, Fits};
 
-const TOO_LARGE: u64 = 2_147_483_649;
-
-// The number that the digits are, or one that no integer has where it is larger.
-fn digits(word: &[u8]) -> u64
-    ensures up_to_a_bound { result ≡ min 2147483649 (digits_from 0 word.now) }
+// The number that the digits are, if it is one of 32 bits.
+fn digits(word: &[u8]) -> Option<u32>
+    ensures all_of_them { MatchOption result (2 ^ 32 ≤ digits_from 0 word.now) (λ n. n ≡ digits_from 0 word.now) }
 {
-    let mut n: u64 = 0;
+    let mut n: u32 = 0;
     for b in word {
-        n = (10 * n + b.saturating_sub(b'0') as u64).min(TOO_LARGE);
+        let digit = u32::from(b.saturating_sub(b'0'));
+        n = n.checked_mul(10)?.checked_add(digit)?;
     }
-    n
+    Some(n)
 }
 
 // The value of digits with a `-` before them or without, if it is one of 32 bits.
@@ -20,8 +19,8 @@ pub fn value(word: &[u8]) -> Option<i32>
     ensures read { MatchOption result (Fits word.now → ⊥) (λ v. Fits word.now × (v ≡ value_of word.now)) }
 {
     let value = match word.strip_prefix(b"-") {
-        Some(word) => -(digits(word) as i64),
-        None => digits(word) as i64,
+        Some(word) => -i64::from(digits(word)?),
+        None => i64::from(digits(word)?),
     };
     i32::try_from(value).ok()
 }

@@ -8,9 +8,10 @@ use crate::limits::{NAMES, within};
 use crate::read::{Judged, Stuck};
 use crate::source::Text;
 use crate::table::Table;
-use nodes::node::{NO_NAME, Node, Rule};
+use nodes::node::{Node, Rule};
 use nodes::refusal::Refusal;
 use stack::Stack;
+use text::span::Span;
 
 impl Text<'_> {
     // A sequence, up to the text's end.
@@ -18,7 +19,7 @@ impl Text<'_> {
         requires none { nodes.old.count ≡ 0 }
         ensures reads { MatchResult result (λ g. RuleMeasured self.entry.bytes.now self.entry.base nodes.old nodes.new g) (λ s. TextStuck Kind.rule self.entry.bytes.now s.0) }
     {
-        let mut spans = [NO_NAME; NAMES + 1];
+        let mut spans = [Span::default(); NAMES + 1];
         let mut names = Stack::new(&mut spans);
         let got = self.sequence(0, nodes, &mut names)?;
         self.end(got.to)?;

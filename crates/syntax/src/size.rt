@@ -9,7 +9,7 @@ use nodes::node::{ARGUMENTS, Arguments};
 impl Size {
     // Of an expression of one token.
     pub fn leaf(small: bool) -> Size
-        ensures { result ≡ record { depth = 1; small = small } }
+        ensures one_deep { result ≡ record { depth = 1; small = small } }
     {
         Size { depth: 1, small }
     }
@@ -37,11 +37,11 @@ impl Size {
 
 impl Given {
     pub fn none(to: u16) -> Given
-        ensures { result ≡ record { to = to; arguments = record { count = 0; roots = 0 ∷ 0 ∷ 0 ∷ 0 ∷ [] }; size = record { depth = 0; small = true } } }
+        ensures none { result ≡ record { to = to; arguments = record { count = 0; roots = 0 ∷ 0 ∷ 0 ∷ 0 ∷ [] }; size = record { depth = 0; small = true } } }
     {
         Given {
             to,
-            arguments: Arguments::none(),
+            arguments: Arguments::default(),
             size: Size {
                 depth: 0,
                 small: true,

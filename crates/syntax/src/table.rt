@@ -6,7 +6,7 @@ use crate::read::{Got, Size};
 use crate::sight::Sight;
 use nodes::node::{Form, Node};
 
-// A table in lent memory: items that find no room are only counted.
+// A table in lent memory: items that find no room are only counted, which a stack would not do.
 #[derive(Drop)]
 pub struct Table<'a, T> {
     items: &'a mut [T],
@@ -19,11 +19,20 @@ impl<'a, T: Copy> Table<'a, T> {
         ensures items { result.items.now ≡ items.old }
         ensures lender { result.items.ghost_name ≡ items.entry.ghost_name }
     {
-        Table { items, count: 0 }
+        Table::resume(items, 0)
+    }
+
+    // A table with what an earlier call left in it.
+    pub fn resume(items: &'a mut [T], count: u16) -> Table<'a, T>
+        ensures counted { result.count ≡ count }
+        ensures items { result.items.now ≡ items.old }
+        ensures lender { result.items.ghost_name ≡ items.entry.ghost_name }
+    {
+        Table { items, count }
     }
 
     pub fn count(&self) -> u16
-        ensures { result ≡ self.now.count }
+        ensures counted { result ≡ self.now.count }
     {
         self.count
     }
@@ -36,12 +45,13 @@ impl<'a, T: Copy> Table<'a, T> {
         ensures items { self.new.items.now ≡ slice_set self.old.items.now self.old.count item }
         ensures lender { self.new.items.ghost_name ≡ self.old.items.ghost_name }
     {
-        let at = self.count as usize;
+        let place = self.count;
+        let at = usize::from(place);
         if at < self.items.len() {
             self.items[at] = item;
         }
         self.count += 1;
-        at as u16
+        place
     }
 }
 

@@ -3,14 +3,15 @@ ghost use Rattle.std.specs.Prelude.{◌≡◌, Decides, slice_index};
 ghost use Rattle.text.specs.Memory.{memory_of, byte_of, bytes_of};
 
 // The fixed names, the texts that the caller lends, and the strings that the run made.
-#[derive(Clone, Copy, PartialEq, Eq, Debug)]
+#[derive(Clone, Copy, PartialEq, Eq, Debug, Default)]
 pub enum Space {
     Fixed,
+    #[default]
     Texts,
     Made,
 }
 
-#[derive(Clone, Copy, PartialEq, Eq, Debug)]
+#[derive(Clone, Copy, PartialEq, Eq, Debug, Default)]
 pub struct Span {
     pub space: Space,
     pub start: u16,

@@ -1,16 +1,16 @@
-use Rattle.std.proofs.Common.{sym, ◌∙◌}
-use Rattle.std.proofs.lemmas.Result.{err_from_is_err_and}
+use Rattle.std.proofs.Common.{rules, sym, ◌∙◌}
+use Rattle.syntax.proofs.Reading.{handed}
 use Rattle.syntax.proofs.Texts.{rule-judged, breaks}
 use Rattle.syntax.proofs.rule.judged.Goals as goal
 
 pub returns-in_err-rule : goal.returns-in_err-rule
 returns-in_err-rule c =
     let t = c.in_ok-text.ensures in
-    let p = err_from_is_err_and c.from_residual-in_err-rule.result c.from_residual-in_err-rule.ensures.1 in
-    rw (p.1, p.2) (record { the_one_tree_or_the_refusal = breaks t.same.0 t.lexed c.in_err-rule.ensures.reads })
+    rw (handed c.from_residual-in_err-rule.result c.from_residual-in_err-rule.ensures.1) (record { the_one_tree_or_the_refusal = breaks t.same.0 t.lexed c.in_err-rule.ensures.reads })
 
 pub returns : goal.returns
 returns c =
     let M = c.in_ok-rule.ensures.reads in
     let t = c.in_ok-text.ensures in
-    record { the_one_tree_or_the_refusal = rule-judged t.same (c.nodes-2-1.given.1.1 (sym (M.read.lender ∙ c.new-nodes.ensures.lender))) t.lexed M }
+    let n = sym (M.read.lender ∙ c.new-nodes.ensures.lender) in
+    record { the_one_tree_or_the_refusal = rule-judged t.same (search (rules, n)) t.lexed M }

@@ -1,9 +1,9 @@
 use Rattle.std.proofs.Common.{◌≡◌, ℕ, refl, ap, ◌∙◌, arith}
-use Rattle.std.proofs.lemmas.Result.{err_from_is_err_and, MatchResult-weaker, IfOk-weaker}
+use Rattle.std.proofs.lemmas.Result.{MatchResult-weaker, IfOk-weaker}
 use Rattle.grammar.specs.Tree.{Expr}
 use Rattle.syntax.specs.declared.sight.Sort.TheVariants as sort
 use Rattle.syntax.specs.Sizes.{around, side_by_side}
-use Rattle.syntax.proofs.Reading.{lower, never, shown-as}
+use Rattle.syntax.proofs.Reading.{handed, lower, never, shown-as}
 use Rattle.syntax.proofs.Sizes.{plain-sized}
 use Rattle.syntax.proofs.Moving.{earlier, leaf-moves, seq-moves, set-moves, while-moves, if-moves, new-moves, test-moves, call-moves, none_moves, first-moves, next-moves, close-moves}
 use Rattle.syntax.proofs.Forms.{alternative-lost, args-made, call-args-lost, call-made, call-open-lost, class-lost, close-lost, condition-lost, consequent-lost, do-lost, else-lost, end-lost, first-lost, first_made, guard-lost, idle-sign, idle-word, if-end-lost, if-made, item-test, leaf-made, loop-lost, method-lost, new-args-lost, new-made, new-open-lost, next-lost, next-made, none_made, seq-item, seq-lost, seq-made, set-lost, set-made, test-class-lost, test-made, then-lost, token-lost, while-end-lost, while-made}
@@ -13,13 +13,11 @@ use Rattle.syntax.proofs.source.Text.+expressions.Goals as goal
 
 pub sequence-returns-in_err-a : goal.sequence-returns-in_err-a
 sequence-returns-in_err-a t c =
-    let p = err_from_is_err_and c.from_residual.result c.from_residual.ensures.1 in
-    rw (p.1, p.2) (record { moves = tt; reads = lower 4 (omega arith) c.in_err-a.ensures.reads })
+    rw (handed c.from_residual.result c.from_residual.ensures.1) (record { moves = tt; reads = lower 4 (omega arith) c.in_err-a.ensures.reads })
 
 pub sequence-returns-in_err-b-in-Some : goal.sequence-returns-in_err-b-in-Some
 sequence-returns-in_err-b-in-Some t c =
-    let p = err_from_is_err_and c.from_residual-in_err-b-in-Some.result c.from_residual-in_err-b-in-Some.ensures.1 in
-    rw (p.1, p.2) (record { moves = tt; reads = seq-lost c.in_ok-a.ensures.reads (record { is = c.in-Some.ensures.found.1 }) c.in_err-b-in-Some.ensures.reads })
+    rw (handed c.from_residual-in_err-b-in-Some.result c.from_residual-in_err-b-in-Some.ensures.1) (record { moves = tt; reads = seq-lost c.in_ok-a.ensures.reads (record { is = c.in-Some.ensures.found.1 }) c.in_err-b-in-Some.ensures.reads })
 
 pub sequence-returns-in_ok-b-in-Some : goal.sequence-returns-in_ok-b-in-Some
 sequence-returns-in_ok-b-in-Some t c =
@@ -40,8 +38,7 @@ sequence-returns-in-None t c =
 
 pub item-returns-in_err-e-in-Some : goal.item-returns-in_err-e-in-Some
 item-returns-in_err-e-in-Some t c =
-    let p = err_from_is_err_and c.from_residual.result c.from_residual.ensures.1 in
-    rw (p.1, p.2) (record { moves = tt; reads = set-lost c.in-Some.ensures.found c.in_err-e-in-Some.ensures.reads })
+    rw (handed c.from_residual.result c.from_residual.ensures.1) (record { moves = tt; reads = set-lost c.in-Some.ensures.found c.in_err-e-in-Some.ensures.reads })
 
 pub item-returns-in_ok-e-in-Some : goal.item-returns-in_ok-e-in-Some
 item-returns-in_ok-e-in-Some t c =
@@ -61,33 +58,27 @@ item-returns-in-None t c =
 
 pub conditional-returns-in_err-a : goal.conditional-returns-in_err-a
 conditional-returns-in_err-a t c =
-    let p = err_from_is_err_and c.from_residual.result c.from_residual.ensures.1 in
-    rw (p.1, p.2) (record { moves = tt; reads = λ q b. condition-lost (record { is = b }) c.in_err-a.ensures.reads })
+    rw (handed c.from_residual.result c.from_residual.ensures.1) (record { moves = tt; reads = λ q b. condition-lost (record { is = b }) c.in_err-a.ensures.reads })
 
 pub conditional-returns-in_err-to : goal.conditional-returns-in_err-to
 conditional-returns-in_err-to t c =
-    let p = err_from_is_err_and c.from_residual-in_err-to.result c.from_residual-in_err-to.ensures.1 in
-    rw (p.1, p.2) (record { moves = tt; reads = λ q b. then-lost (record { is = b }) c.in_ok-a.ensures.reads c.in_err-to.ensures.found })
+    rw (handed c.from_residual-in_err-to.result c.from_residual-in_err-to.ensures.1) (record { moves = tt; reads = λ q b. then-lost (record { is = b }) c.in_ok-a.ensures.reads c.in_err-to.ensures.found })
 
 pub conditional-returns-in_err-b : goal.conditional-returns-in_err-b
 conditional-returns-in_err-b t c =
-    let p = err_from_is_err_and c.from_residual-in_err-b.result c.from_residual-in_err-b.ensures.1 in
-    rw (p.1, p.2) (record { moves = tt; reads = λ q b. consequent-lost (record { is = b }) c.in_ok-a.ensures.reads (record { is = c.in_ok-to.ensures.found.1 }) c.in_err-b.ensures.reads })
+    rw (handed c.from_residual-in_err-b.result c.from_residual-in_err-b.ensures.1) (record { moves = tt; reads = λ q b. consequent-lost (record { is = b }) c.in_ok-a.ensures.reads (record { is = c.in_ok-to.ensures.found.1 }) c.in_err-b.ensures.reads })
 
 pub conditional-returns-in_err-to-2 : goal.conditional-returns-in_err-to-2
 conditional-returns-in_err-to-2 t c =
-    let p = err_from_is_err_and c.from_residual-in_err-to-2.result c.from_residual-in_err-to-2.ensures.1 in
-    rw (p.1, p.2) (record { moves = tt; reads = λ q b. else-lost (record { is = b }) c.in_ok-a.ensures.reads (record { is = c.in_ok-to.ensures.found.1 }) c.in_ok-b.ensures.reads c.in_err-to-2.ensures.found })
+    rw (handed c.from_residual-in_err-to-2.result c.from_residual-in_err-to-2.ensures.1) (record { moves = tt; reads = λ q b. else-lost (record { is = b }) c.in_ok-a.ensures.reads (record { is = c.in_ok-to.ensures.found.1 }) c.in_ok-b.ensures.reads c.in_err-to-2.ensures.found })
 
 pub conditional-returns-in_err-c : goal.conditional-returns-in_err-c
 conditional-returns-in_err-c t c =
-    let p = err_from_is_err_and c.from_residual-in_err-c.result c.from_residual-in_err-c.ensures.1 in
-    rw (p.1, p.2) (record { moves = tt; reads = λ q b. alternative-lost (record { is = b }) c.in_ok-a.ensures.reads (record { is = c.in_ok-to.ensures.found.1 }) c.in_ok-b.ensures.reads (record { is = c.in_ok-to-2.ensures.found.1 }) c.in_err-c.ensures.reads })
+    rw (handed c.from_residual-in_err-c.result c.from_residual-in_err-c.ensures.1) (record { moves = tt; reads = λ q b. alternative-lost (record { is = b }) c.in_ok-a.ensures.reads (record { is = c.in_ok-to.ensures.found.1 }) c.in_ok-b.ensures.reads (record { is = c.in_ok-to-2.ensures.found.1 }) c.in_err-c.ensures.reads })
 
 pub conditional-returns-in_err-to-3 : goal.conditional-returns-in_err-to-3
 conditional-returns-in_err-to-3 t c =
-    let p = err_from_is_err_and c.from_residual-in_err-to-3.result c.from_residual-in_err-to-3.ensures.1 in
-    rw (p.1, p.2) (record { moves = tt; reads = λ q b. if-end-lost (record { is = b }) c.in_ok-a.ensures.reads (record { is = c.in_ok-to.ensures.found.1 }) c.in_ok-b.ensures.reads (record { is = c.in_ok-to-2.ensures.found.1 }) c.in_ok-c.ensures.reads c.in_err-to-3.ensures.found })
+    rw (handed c.from_residual-in_err-to-3.result c.from_residual-in_err-to-3.ensures.1) (record { moves = tt; reads = λ q b. if-end-lost (record { is = b }) c.in_ok-a.ensures.reads (record { is = c.in_ok-to.ensures.found.1 }) c.in_ok-b.ensures.reads (record { is = c.in_ok-to-2.ensures.found.1 }) c.in_ok-c.ensures.reads c.in_err-to-3.ensures.found })
 
 pub conditional-returns : goal.conditional-returns
 conditional-returns t c =
@@ -108,23 +99,19 @@ conditional-returns t c =
 
 pub repetition-returns-in_err-a : goal.repetition-returns-in_err-a
 repetition-returns-in_err-a t c =
-    let p = err_from_is_err_and c.from_residual.result c.from_residual.ensures.1 in
-    rw (p.1, p.2) (record { moves = tt; reads = λ q b. guard-lost (record { is = b }) c.in_err-a.ensures.reads })
+    rw (handed c.from_residual.result c.from_residual.ensures.1) (record { moves = tt; reads = λ q b. guard-lost (record { is = b }) c.in_err-a.ensures.reads })
 
 pub repetition-returns-in_err-to : goal.repetition-returns-in_err-to
 repetition-returns-in_err-to t c =
-    let p = err_from_is_err_and c.from_residual-in_err-to.result c.from_residual-in_err-to.ensures.1 in
-    rw (p.1, p.2) (record { moves = tt; reads = λ q b. do-lost (record { is = b }) c.in_ok-a.ensures.reads c.in_err-to.ensures.found })
+    rw (handed c.from_residual-in_err-to.result c.from_residual-in_err-to.ensures.1) (record { moves = tt; reads = λ q b. do-lost (record { is = b }) c.in_ok-a.ensures.reads c.in_err-to.ensures.found })
 
 pub repetition-returns-in_err-b : goal.repetition-returns-in_err-b
 repetition-returns-in_err-b t c =
-    let p = err_from_is_err_and c.from_residual-in_err-b.result c.from_residual-in_err-b.ensures.1 in
-    rw (p.1, p.2) (record { moves = tt; reads = λ q b. loop-lost (record { is = b }) c.in_ok-a.ensures.reads (record { is = c.in_ok-to.ensures.found.1 }) c.in_err-b.ensures.reads })
+    rw (handed c.from_residual-in_err-b.result c.from_residual-in_err-b.ensures.1) (record { moves = tt; reads = λ q b. loop-lost (record { is = b }) c.in_ok-a.ensures.reads (record { is = c.in_ok-to.ensures.found.1 }) c.in_err-b.ensures.reads })
 
 pub repetition-returns-in_err-to-2 : goal.repetition-returns-in_err-to-2
 repetition-returns-in_err-to-2 t c =
-    let p = err_from_is_err_and c.from_residual-in_err-to-2.result c.from_residual-in_err-to-2.ensures.1 in
-    rw (p.1, p.2) (record { moves = tt; reads = λ q b. while-end-lost (record { is = b }) c.in_ok-a.ensures.reads (record { is = c.in_ok-to.ensures.found.1 }) c.in_ok-b.ensures.reads c.in_err-to-2.ensures.found })
+    rw (handed c.from_residual-in_err-to-2.result c.from_residual-in_err-to-2.ensures.1) (record { moves = tt; reads = λ q b. while-end-lost (record { is = b }) c.in_ok-a.ensures.reads (record { is = c.in_ok-to.ensures.found.1 }) c.in_ok-b.ensures.reads c.in_err-to-2.ensures.found })
 
 pub repetition-returns : goal.repetition-returns
 repetition-returns t c =
@@ -142,18 +129,15 @@ repetition-returns t c =
 
 pub creation-returns-in_err-class : goal.creation-returns-in_err-class
 creation-returns-in_err-class t c =
-    let p = err_from_is_err_and c.from_residual.result c.from_residual.ensures.1 in
-    rw (p.1, p.2) (record { moves = tt; reads = λ q b. class-lost (record { is = b }) c.in_err-class.ensures.found })
+    rw (handed c.from_residual.result c.from_residual.ensures.1) (record { moves = tt; reads = λ q b. class-lost (record { is = b }) c.in_err-class.ensures.found })
 
 pub creation-returns-in_err-open : goal.creation-returns-in_err-open
 creation-returns-in_err-open t c =
-    let p = err_from_is_err_and c.from_residual-in_err-open.result c.from_residual-in_err-open.ensures.1 in
-    rw (p.1, p.2) (record { moves = tt; reads = λ q b. new-open-lost (record { is = b }) (record { is = c.in_ok-class.ensures.found }) c.in_err-open.ensures.found })
+    rw (handed c.from_residual-in_err-open.result c.from_residual-in_err-open.ensures.1) (record { moves = tt; reads = λ q b. new-open-lost (record { is = b }) (record { is = c.in_ok-class.ensures.found }) c.in_err-open.ensures.found })
 
 pub creation-returns-in_err-given : goal.creation-returns-in_err-given
 creation-returns-in_err-given t c =
-    let p = err_from_is_err_and c.from_residual-in_err-given.result c.from_residual-in_err-given.ensures.1 in
-    rw (p.1, p.2) (record { moves = tt; reads = λ q b. new-args-lost (record { is = b }) (record { is = c.in_ok-class.ensures.found }) (record { is = c.in_ok-open.ensures.found.1 }) c.in_err-given.ensures.reads })
+    rw (handed c.from_residual-in_err-given.result c.from_residual-in_err-given.ensures.1) (record { moves = tt; reads = λ q b. new-args-lost (record { is = b }) (record { is = c.in_ok-class.ensures.found }) (record { is = c.in_ok-open.ensures.found.1 }) c.in_err-given.ensures.reads })
 
 pub creation-returns : goal.creation-returns
 creation-returns t c =
@@ -171,8 +155,7 @@ creation-returns t c =
 pub test-returns-in_err-class : goal.test-returns-in_err-class
 test-returns-in_err-class t c =
     let A = c.loop-to.invariant.1.parsed in
-    let p = err_from_is_err_and c.from_residual-in_err-class.result c.from_residual-in_err-class.ensures.1 in
-    rw (p.1, p.2) (record { moves = tt; reads = test-class-lost A (record { is = c.in-Some.ensures.found.1 }) c.in_err-class.ensures.found })
+    rw (handed c.from_residual-in_err-class.result c.from_residual-in_err-class.ensures.1) (record { moves = tt; reads = test-class-lost A (record { is = c.in-Some.ensures.found.1 }) c.in_err-class.ensures.found })
 
 pub test-loop-to-preserved : goal.test-loop-to-preserved
 test-loop-to-preserved t c =
@@ -189,20 +172,17 @@ test-loop-to-preserved t c =
 pub operand-returns-in_err-method : goal.operand-returns-in_err-method
 operand-returns-in_err-method t c =
     let A = c.loop-to.invariant.1 in
-    let p = err_from_is_err_and c.from_residual-in_err-method.result c.from_residual-in_err-method.ensures.1 in
-    rw (p.1, p.2) (record { moves = tt; reads = method-lost A (record { is = c.in-Some.ensures.found.1 }) c.in_err-method.ensures.found })
+    rw (handed c.from_residual-in_err-method.result c.from_residual-in_err-method.ensures.1) (record { moves = tt; reads = method-lost A (record { is = c.in-Some.ensures.found.1 }) c.in_err-method.ensures.found })
 
 pub operand-returns-in_err-open : goal.operand-returns-in_err-open
 operand-returns-in_err-open t c =
     let A = c.loop-to.invariant.1 in
-    let p = err_from_is_err_and c.from_residual-in_err-open.result c.from_residual-in_err-open.ensures.1 in
-    rw (p.1, p.2) (record { moves = tt; reads = call-open-lost A (record { is = c.in-Some.ensures.found.1 }) (record { is = c.in_ok-method.ensures.found }) c.in_err-open.ensures.found })
+    rw (handed c.from_residual-in_err-open.result c.from_residual-in_err-open.ensures.1) (record { moves = tt; reads = call-open-lost A (record { is = c.in-Some.ensures.found.1 }) (record { is = c.in_ok-method.ensures.found }) c.in_err-open.ensures.found })
 
 pub operand-returns-in_err-given : goal.operand-returns-in_err-given
 operand-returns-in_err-given t c =
     let A = c.loop-to.invariant.1 in
-    let p = err_from_is_err_and c.from_residual-in_err-given.result c.from_residual-in_err-given.ensures.1 in
-    rw (p.1, p.2) (record { moves = tt; reads = call-args-lost A (record { is = c.in-Some.ensures.found.1 }) (record { is = c.in_ok-method.ensures.found }) (record { is = c.in_ok-open.ensures.found.1 }) c.in_err-given.ensures.reads })
+    rw (handed c.from_residual-in_err-given.result c.from_residual-in_err-given.ensures.1) (record { moves = tt; reads = call-args-lost A (record { is = c.in-Some.ensures.found.1 }) (record { is = c.in_ok-method.ensures.found }) (record { is = c.in_ok-open.ensures.found.1 }) c.in_err-given.ensures.reads })
 
 pub operand-loop-to-preserved : goal.operand-loop-to-preserved
 operand-loop-to-preserved t c =
@@ -242,8 +222,8 @@ primary-returns-in-Word t c =
     let i = c.in-Some.ensures.inside in
     record { moves = IfOk-weaker c.keyed.result _ _ (λ g m. earlier i.0 m) c.keyed.ensures.moves; reads = c.keyed.ensures.reads c.args.at (shown-as c.args.self.bytes.now c.args.at c.in-Some.sight c.in-Some.ensures.shows c.in-Word.is) }
 
-pub primary-returns-in-None : goal.primary-returns-in-None
-primary-returns-in-None t c = record { moves = tt; reads = end-lost c.in-None.ensures.shows }
+pub primary-returns-in_default : goal.primary-returns-in_default
+primary-returns-in_default t c = record { moves = tt; reads = end-lost c.in_default.ensures.shows }
 
 pub primary-returns-in-Sign : goal.primary-returns-in-Sign
 primary-returns-in-Sign t c = record { moves = tt; reads = token-lost (record { is = shown-as c.args.self.bytes.now c.args.at c.in-Some.sight c.in-Some.ensures.shows c.in-Sign.is }) (idle-sign _) }
@@ -291,33 +271,30 @@ arguments-returns-in-Some t c =
     let i = c.in-Some.ensures.inside in
     let d = c.closed.ensures.as_given in
     record {
-      moves = none_moves (ap (λ z. z.arguments.count) c.none-none.ensures) c.requires.few i d;
-      reads = none_made (record { is = c.in-Some.ensures.found.1 }) c.none-none.ensures d;
+      moves = none_moves (ap (λ z. z.arguments.count) c.none-none.ensures.none) c.requires.few i d;
+      reads = none_made (record { is = c.in-Some.ensures.found.1 }) c.none-none.ensures.none d;
     }
 
 pub arguments-returns-in_err-e : goal.arguments-returns-in_err-e
 arguments-returns-in_err-e t c =
-    let p = err_from_is_err_and c.from_residual.result c.from_residual.ensures.1 in
-    rw (p.1, p.2) (record { moves = tt; reads = first-lost c.in_default.ensures.found c.in_err-e.ensures.reads })
+    rw (handed c.from_residual.result c.from_residual.ensures.1) (record { moves = tt; reads = first-lost c.in_default.ensures.found c.in_err-e.ensures.reads })
 
 pub arguments-returns-in_err-e-2 : goal.arguments-returns-in_err-e-2
 arguments-returns-in_err-e-2 t c =
     let A = c.loop-to.invariant.1 in
-    let p = err_from_is_err_and c.from_residual-in_err-e-2.result c.from_residual-in_err-e-2.ensures.1 in
-    rw (p.1, p.2) (record { moves = tt; reads = next-lost A (record { is = c.in-Some-after.ensures.found.1 }) c.in_err-e-2.ensures.reads })
+    rw (handed c.from_residual-in_err-e-2.result c.from_residual-in_err-e-2.ensures.1) (record { moves = tt; reads = next-lost A (record { is = c.in-Some-after.ensures.found.1 }) c.in_err-e-2.ensures.reads })
 
 pub arguments-returns-in_err-to : goal.arguments-returns-in_err-to
 arguments-returns-in_err-to t c =
     let A = c.loop-to.invariant.1 in
-    let p = err_from_is_err_and c.from_residual-in_err-to.result c.from_residual-in_err-to.ensures.1 in
-    rw (p.1, p.2) (record { moves = tt; reads = close-lost A c.in_default-after.ensures.found c.in_err-to.ensures.found })
+    rw (handed c.from_residual-in_err-to.result c.from_residual-in_err-to.ensures.1) (record { moves = tt; reads = close-lost A c.in_default-after.ensures.found c.in_err-to.ensures.found })
 
 pub arguments-loop-to-init : goal.arguments-loop-to-init
 arguments-loop-to-init t c =
     let me = c.in_ok-e.ensures.moves in
     let w = c.with-given.ensures.one_more in (
-      first-moves (ap (λ z. z.arguments.count) c.none-none.ensures) me w,
-      first_made c.in_default.ensures.found c.none-none.ensures c.in_ok-e.ensures.reads w me,
+      first-moves (ap (λ z. z.arguments.count) c.none-none.ensures.none) me w,
+      first_made c.in_default.ensures.found c.none-none.ensures.none c.in_ok-e.ensures.reads w me,
     )
 
 pub arguments-loop-to-preserved : goal.arguments-loop-to-preserved

@@ -12,5 +12,5 @@ returns-clause-reads c p begins =
     let s = c.args.sight in
     let w = slice c.args.self.bytes.now s.from s.to in
     let r = integer-read w c.value-number.result c.value-number.ensures.read in
-    leaf-made (Expr.int s.from w) (record { is = begins }) (omega arith) (λ k. refl) (λ ns. refl) (λ u i. let z : ◌≡◌ {A = ℕ} 0 1 = cc in never z) refl c.put.ensures.put refl (integer-sized s.from w (c.leaf.ensures ∙ ap (λ z. record { depth = 1; small = z }) c.is_some.ensures) r.0) (λ ns k. k)
+    leaf-made (Expr.int s.from w) (record { is = begins }) (omega arith) (λ k. refl) (λ ns. refl) (λ u i. let z : ◌≡◌ {A = ℕ} 0 1 = cc in never z) refl c.put.ensures.put refl (integer-sized s.from w (c.leaf.ensures.one_deep ∙ ap (λ z. record { depth = 1; small = z }) c.is_some.ensures) r.0) (λ ns k. k)
     (λ mem lies is. (_, is, λ f. let fits : SFits w32 c.unwrap_or.result = search rules in to_z-of_z w32 _ fits ∙ c.unwrap_or.ensures ∙ r.1 f))

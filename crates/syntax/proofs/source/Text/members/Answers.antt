@@ -1,5 +1,5 @@
 use Rattle.std.proofs.Common.{arith}
-use Rattle.std.proofs.lemmas.Result.{err_from_is_err_and}
+use Rattle.syntax.proofs.Reading.{handed}
 use Rattle.syntax.proofs.Methods.{no-members, member-lost, member-made}
 use Rattle.syntax.proofs.source.Text.members.Goals as goal
 
@@ -8,8 +8,7 @@ loop-to-init c = (omega arith, omega arith, omega arith, omega arith, no-members
 
 pub returns-in_err-defined : goal.returns-in_err-defined
 returns-in_err-defined c =
-    let p = err_from_is_err_and c.from_residual.result c.from_residual.ensures.1 in
-    rw (p.1, p.2) (record { moves = tt; reads = member-lost c.loop-to.invariant.4 (record { is = c.in-Some.ensures.found.1 }) c.in_err-defined.ensures.reads })
+    rw (handed c.from_residual.result c.from_residual.ensures.1) (record { moves = tt; reads = member-lost c.loop-to.invariant.4 (record { is = c.in-Some.ensures.found.1 }) c.in_err-defined.ensures.reads })
 
 pub loop-to-preserved : goal.loop-to-preserved
 loop-to-preserved c =

@@ -14,5 +14,5 @@ returns-clause-reads c p begins =
     let w = slice c.args.self.bytes.now (s.from + 1) (s.to - 1) in
     let n : c.span-word.result.len ≡ length w = ap (λ z. z.len) c.span-word.ensures.where_they_lie ∙ sym (simp (length-take, length-drop) (omega arith)) in
     let judged = subst (λ z. Decides (leb c.span-word.result.len 255) (z ≤ 255)) n (leb-true c.span-word.result.len 255, le-leb c.span-word.result.len 255) in
-    leaf-made (Expr.string s.from w) (record { is = begins }) (omega arith) (λ k. refl) (λ ns. refl) (λ u i. let z : ◌≡◌ {A = ℕ} 0 1 = cc in never z) refl c.put.ensures.put refl (string-sized s.from w c.leaf.ensures judged) (λ ns k. k)
+    leaf-made (Expr.string s.from w) (record { is = begins }) (omega arith) (λ k. refl) (λ ns. refl) (λ u i. let z : ◌≡◌ {A = ℕ} 0 1 = cc in never z) refl c.put.ensures.put refl (string-sized s.from w c.leaf.ensures.one_deep judged) (λ ns k. k)
     (λ mem lies is. (_, is, word-seen c.args.self.base (s.from + 1) (s.to - 1) c.span-word.ensures.where_they_lie (omega arith) (omega arith) mem lies))
