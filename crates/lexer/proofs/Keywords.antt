@@ -4,8 +4,7 @@ use Rattle.std.specs.List.{find}
 use Rattle.std.specs.Str.{bytes_eq}
 use Rattle.std.proofs.lemmas.Slice.Eq.{bytes_eq-Decides}
 use Rattle.lexer.specs.declared.token.Keyword.{Keyword}
-use Rattle.lexer.specs.declared.token.TheConstants.Keyword.{ALL}
-use Rattle.lexer.specs.Keyword.{word, keyword_of}
+use Rattle.lexer.specs.Keyword.{word, keywords, keyword_of}
 
 found-spells : (ks : List Keyword) (w : List ℕ) (k : Keyword) → find (λ k. bytes_eq w (word k)) ks ≡ Some k → w ≡ word k
 found-spells [] w k e = let z : ◌≡◌ {A = ℕ} 0 1 = cc in absurd (omega arith)
@@ -17,4 +16,4 @@ found-spells (j ∷ ks) w k e = by (bytes_eq w (word j)) refl e (found-spells ks
 -- a keyword is found by its own letters only
 pub keyword-spells : (w : List ℕ) (k : Keyword) → keyword_of w ≡ Some k → w ≡ word k
 unfolding keyword_of
-keyword-spells w k e = found-spells ALL w k e
+keyword-spells w k e = found-spells keywords w k e

@@ -1,6 +1,5 @@
 -- The words that are no identifiers. Assumes nothing.
-use Rattle.std.specs.Prelude.{ℕ, List, codes, Option, find}
-use Rattle.lexer.specs.declared.token.TheConstants.Keyword.{ALL}
+use Rattle.std.specs.Prelude.{ℕ, List, [], ◌∷◌, codes, Option, find}
 use Rattle.std.specs.Str.{bytes_eq}
 use Rattle.lexer.specs.declared.token.Keyword.{Keyword}
 use Rattle.lexer.specs.declared.token.Keyword.TheVariants.{Class, Begin, End, Def, If, Then, Else, While, Do, New, InstanceOf, SelfWord, Nil}
@@ -20,6 +19,10 @@ word InstanceOf = codes "instanceof"
 word SelfWord = codes "self"
 word Nil = codes "nil"
 
+abbrev pub keywords : List Keyword
+keywords =
+    Class ∷ Begin ∷ End ∷ Def ∷ If ∷ Then ∷ Else ∷ While ∷ Do ∷ New ∷ InstanceOf ∷ SelfWord ∷ Nil ∷ []
+
 -- the first of the keywords that is written so
 unfoldable pub keyword_of : List ℕ → Option Keyword
-keyword_of w = find (λ k. bytes_eq w (word k)) ALL
+keyword_of w = find (λ k. bytes_eq w (word k)) keywords
