@@ -28,6 +28,7 @@ pub enum Ending {
 }
 
 impl Ending {
+    // A method, so that the code which prints it says what the number is.
     pub fn number(self) -> u8
         ensures its_number { result ≡ number_of self }
     {

@@ -1,7 +1,8 @@
 // The globals of a run, the oldest first.
-ghost use Rattle.std.specs.Prelude.{◌≡◌, ℕ, ◌≤◌, [], OnErr, nat_eq};
+ghost use Rattle.std.specs.Prelude.{◌≡◌, ℕ, ◌≤◌, [], pos, OnErr, nat_eq};
 ghost use Rattle.std.specs.List.{position};
 ghost use Rattle.text.specs.Memory.{Memory};
+ghost use Rattle.store.specs.declared.value.Value.TheVariants.{Int};
 ghost use Rattle.store.specs.Val.{Val, end_of};
 ghost use Rattle.store.specs.Answers.{meant};
 ghost use Rattle.store.specs.Tables.{look};
@@ -24,6 +25,8 @@ struct Global {
 
 // What stands in the places that no global has taken.
 impl Default for Global {
+    ghost is_default = { λ e. (e.name.0 ≡ 0) × (e.value ≡ Int (pos 0)) };
+
     fn default() -> Global {
         Global {
             name: Identifier(0),
@@ -85,7 +88,7 @@ impl Globals {
         let global = Global { name, value };
         match self.place(name) {
             Some(i) => self.entries[i] = global,
-            None if self.entries.is_full() => return Err(NoRoom),
+            None if self.entries.len() == GLOBALS => return Err(NoRoom),
             None => self.entries.push(global),
         }
         Ok(())

@@ -28,7 +28,7 @@ pub fn value(registers: &[Option<Value>], a: Register) -> Result<Value, Ending>
 
 // What a register holds, if its kind is the one that is wanted.
 pub fn operand<T: Operand>(registers: &[Option<Value>], a: Register) -> Result<T, Ending>
-    ensures held { (m : Memory) → taken T.Operand.means result ≡ wanted_at T.Operand.wanted (registers_of m registers.now) a.0 }
+    ensures held { (m : Memory) → taken (T.Operand.means m) result ≡ wanted_at T.Operand.wanted (registers_of m registers.now) a.0 }
 {
     T::of_value(value(registers, a)?)
 }
@@ -40,6 +40,7 @@ pub(crate) fn truth(b: bool) -> Value
     Value::Int(i32::from(b))
 }
 
+// These three read two registers each, by two lines: a function for the pair would be longer than what it saves.
 pub(crate) fn arith(
     registers: &[Option<Value>],
     op: Op,
