@@ -39,16 +39,6 @@ pub record SameSpace (p q : Spent) : Type 0 where
   pub strings : SameSlice p.strings.bytes q.strings.bytes
   pub output : SameSlice p.output.bytes q.output.bytes
 
--- a string by its bytes
-abbrev pub spelled : Memory → Result Span Ending → Outcome (List ℕ)
-spelled m (Ok s) = Ok (bytes_of m s)
-spelled m (Err e) = Err e
-
--- the string ends where the value that holds it does
-abbrev pub Spans : Value → Result Span Ending → Type 0
-Spans v (Ok s) = made_end s ≡ end_of v
-Spans v (Err e) = Unit {0}
-
 abbrev pub both_answered : Memory → Result (Value × Value) Ending → Outcome (Val × Val)
 both_answered m (Ok p) = Ok (meaning m p.0, meaning m p.1)
 both_answered m (Err e) = Err e

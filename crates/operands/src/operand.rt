@@ -1,6 +1,8 @@
 // What an instruction can want of a register: what a value of one kind holds.
-ghost use Rattle.std.specs.Prelude.{◌≡◌, ℕ, List, ℤ};
+ghost use Rattle.std.specs.Prelude.{◌≡◌, ℕ, List, ℤ, IfOk};
 ghost use Rattle.text.specs.Memory.{Memory, bytes_of};
+ghost use Rattle.store.specs.declared.value.Value.{Value};
+ghost use Rattle.store.specs.declared.value.Value.TheVariants.{Int, Str, Ident, Loc};
 ghost use Rattle.store.specs.Val.{Val, meaning};
 ghost use Rattle.machine.specs.Outcome.{Outcome};
 ghost use Rattle.machine.specs.Builtin.{integer_in, string_in};
@@ -19,9 +21,13 @@ pub trait Operand: Copy {
 
     ghost wanted: { Val → Outcome Meaning };
 
+    // the value that holds it
+    ghost holder: { Self → Value };
+
     // A value of another kind leaves the run stuck.
     fn of_value(value: Value) -> Result<Self, Ending>
-        ensures { (m : Memory) → taken (means m) result ≡ wanted (meaning m value) };
+        ensures meant { (m : Memory) → taken (means m) result ≡ wanted (meaning m value) }
+        ensures held { IfOk result (λ x. value ≡ holder x) };
 }
 
 impl Operand for i32 {
@@ -30,6 +36,8 @@ impl Operand for i32 {
     ghost means = { λ _ n. n };
 
     ghost wanted = { integer_in };
+
+    ghost holder = { Int };
 
     fn of_value(value: Value) -> Result<i32, Ending> {
         match value {
@@ -46,6 +54,8 @@ impl Operand for Span {
 
     ghost wanted = { string_in };
 
+    ghost holder = { Str };
+
     fn of_value(value: Value) -> Result<Span, Ending> {
         match value {
             Value::Str(s) => Ok(s),
@@ -61,6 +71,8 @@ impl Operand for Identifier {
 
     ghost wanted = { function_in };
 
+    ghost holder = { Ident };
+
     fn of_value(value: Value) -> Result<Identifier, Ending> {
         match value {
             Value::Ident(g) => Ok(g),
@@ -75,6 +87,8 @@ impl Operand for Location {
     ghost means = { λ _ l. l.0 };
 
     ghost wanted = { location_in };
+
+    ghost holder = { Loc };
 
     fn of_value(value: Value) -> Result<Location, Ending> {
         match value {

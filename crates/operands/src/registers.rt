@@ -49,6 +49,7 @@ pub(crate) fn arith(
 ) -> Result<Value, Ending>
     ensures computed { (m : Memory) → answered m result ≡ arith_at op (registers_of m registers.now) b.0 c.0 }
     ensures within { (u : ℕ) → Within u registers.now → EndsBy u result }
+    ensures no_string { EndsBy 0 result }
 {
     let x = operand(registers, b)?;
     let y = operand(registers, c)?;
@@ -63,6 +64,7 @@ pub(crate) fn ordered(
 ) -> Result<Value, Ending>
     ensures computed { (m : Memory) → answered m result ≡ ordered_at order (registers_of m registers.now) b.0 c.0 }
     ensures within { (u : ℕ) → Within u registers.now → EndsBy u result }
+    ensures no_string { EndsBy 0 result }
 {
     let x = operand(registers, b)?;
     let y = operand(registers, c)?;
@@ -77,6 +79,7 @@ pub(crate) fn equal(
 ) -> Result<Value, Ending>
     ensures computed { answered (memory_of bytes.entry) result ≡ same_at (registers_of (memory_of bytes.entry) registers.now) b.0 c.0 }
     ensures within { (u : ℕ) → Within u registers.now → EndsBy u result }
+    ensures no_string { EndsBy 0 result }
 {
     let x = value(registers, b)?;
     let y = value(registers, c)?;
@@ -95,6 +98,7 @@ fn is_of(kind: Kind, v: Value) -> bool
 pub(crate) fn kind(registers: &[Option<Value>], kind: Kind, b: Register) -> Result<Value, Ending>
     ensures computed { (m : Memory) → answered m result ≡ kind_at kind (registers_of m registers.now) b.0 }
     ensures within { (u : ℕ) → Within u registers.now → EndsBy u result }
+    ensures no_string { EndsBy 0 result }
 {
     Ok(truth(is_of(kind, value(registers, b)?)))
 }

@@ -41,6 +41,7 @@ pub(crate) fn has_key<S: Store>(
 ) -> Result<Value, Ending>
     ensures answered { (T : Tables) → S.Store.holds store.now (memory_of bytes.entry) T → answered (memory_of bytes.entry) result ≡ has_key_at T (registers_of (memory_of bytes.entry) registers.now) b.0 c.0 }
     ensures within { (u : ℕ) → S.Store.within store.now u → EndsBy u result }
+    ensures no_string { EndsBy 0 result }
 {
     let key = Key {
         location: operand(registers, b)?,
