@@ -2,8 +2,8 @@
 use Rattle.std.specs.Prelude.{◌≡◌, ℕ, suc, ◌-◌, ◌<◌, ◌≤◌, List, ℤ, Ok, Err, Result}
 use Rattle.std.specs.Fmt.{signed_decimal}
 use Rattle.text.specs.declared.span.Span.{Span}
-use Rattle.text.specs.Memory.{Memory, bytes_of}
-use Rattle.text.specs.Agree.{Grown, made_end}
+use Rattle.text.specs.Memory.{Memory}
+use Rattle.text.specs.Agree.{Grown}
 use Rattle.store.specs.declared.value.Value.{Value}
 use Rattle.store.specs.Val.{Val, meaning, end_of}
 use Rattle.machine.specs.declared.builtin.Builtin.{Builtin}
