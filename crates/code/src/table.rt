@@ -1,5 +1,6 @@
 // The code table: records, grouped in functions.
-ghost use Rattle.std.specs.Prelude.{◌≡◌, ◌^◌, ◌<◌, length};
+ghost use Rattle.std.specs.Prelude.{◌^◌, ◌<◌, length};
+ghost use Rattle.code.specs.declared.table.TheConstants.{FUNCTIONS};
 
 pub mod laying;
 pub mod places;
@@ -46,7 +47,7 @@ pub struct Sealed {
 pub struct Open {
     finished: ArrayVec<Extent, FUNCTIONS>,
     current: Extent,
-    ghost few: { length finished.items < 82 },
+    ghost few: { length finished.items < FUNCTIONS },
     ghost short: { current.len < 2 ^ 31 },
 }
 

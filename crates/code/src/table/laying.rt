@@ -47,7 +47,7 @@ impl Open {
     {
         let Extent { start, len } = self.current;
         let end = self.current.end();
-        if end >= records.len() as u64 || len >= 0x7fff_ffff {
+        if end >= records.len() as u64 || len >= i32::MAX as u32 {
             return Err(Full(()));
         }
         records[end as usize] = item;
@@ -107,7 +107,7 @@ impl Open {
         ensures kept_where_refused { OnErr result (self.new ≡ self.old) }
     {
         let end = self.current.end();
-        if self.finished.len() + 1 >= FUNCTIONS || end > 0xffff_ffff {
+        if self.finished.len() + 1 >= FUNCTIONS || end > u64::from(u32::MAX) {
             return Err(Full(()));
         }
         self.finished.push(self.current);
