@@ -23,7 +23,7 @@ struct Global {
     value: Value,
 }
 
-// What stands in the places that no global has taken.
+// What stands in the places that no global has taken. By hand, since no value is a default.
 impl Default for Global {
     ghost is_default = { λ e. (e.name.0 ≡ 0) × (e.value ≡ Int (pos 0)) };
 
@@ -64,6 +64,7 @@ impl Globals {
         }
     }
 
+    // One search serves reading and writing.
     fn place(&self, name: Identifier) -> Option<usize>
         ensures first { result ≡ position (λ e. nat_eq e.name.0 name.0) self.now.entries.items }
     {

@@ -65,7 +65,7 @@ module _ (u : ℕ) (m n : Memory) (g : Grown u m n) where
 
   pub program-grown : (s : Sealed) (xs : List Record) → CodeWithin u s xs → program_of m s xs ≡ program_of n s xs
   unfolding program_at
-  program-grown s xs h = functions-grown xs s.functions.items h
+  program-grown s xs h = functions-grown xs (take s.functions s.extents) h
 
 module _ (u v : ℕ) (l : u ≤ v) where
   pub globals-wider : (G : Globals) → GlobalsWithin u G → GlobalsWithin v G
