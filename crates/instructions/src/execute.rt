@@ -32,7 +32,7 @@ fn if_zero(registers: &[Option<Value>], a: Register, pc: Place, n: Offset) -> Re
     }
 }
 
-// The index of a register that the frame has.
+// The index of a register that the frame has. An index, since after a `get_mut` no proof knows the other registers.
 fn target(registers: &[Option<Value>], a: Register) -> Result<usize, Ending>
     ensures { MatchResult result (λ i. (i ≡ a.0) × (i < length registers.now)) (λ e. (e ≡ Stuck) × (length registers.now ≤ a.0)) }
 {
