@@ -85,6 +85,7 @@ const ONE_MORE: [Instruction; 3] = [
     Instruction::Ret(A),
 ];
 
+// As `machine_listings` lays its functions: five calls, which a function for both would only rename.
 fn laid(
     records: &mut [Record],
     main: &[Instruction],
