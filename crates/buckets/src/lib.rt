@@ -22,7 +22,7 @@ use text::span::Bytes;
 mod number;
 mod walk;
 
-// A pair, the number of its bucket, and the place of the next pair of that bucket.
+// A pair, the number of its bucket, and the place of the next pair of that bucket: places in lent memory, where no link can be owned.
 #[derive(Clone, Copy, Default, Debug)]
 pub struct Chained {
     key: Key,
@@ -71,7 +71,7 @@ impl<'e, 'c> BucketStore<'e, 'c> {
         let room = if chains.is_empty() {
             0
         } else {
-            entries.len().min(capacity.pairs() as usize)
+            entries.len().min(usize::from(capacity.pairs()))
         };
         BucketStore {
             entries,
