@@ -146,6 +146,7 @@ impl Store for BucketStore<'_, '_> {
 
     fn read(&self, key: Key, bytes: Bytes<'_, '_, '_>) -> Result<Option<Value>, NoTable> {
         self.tables.check(key.location)?;
+        // arms: of `map` with an index into the entries the check learns the result by cases only
         match self.place_of(key, bytes) {
             Some(i) => Ok(Some(self.entries[i].value)),
             None => Ok(None),

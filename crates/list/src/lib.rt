@@ -111,6 +111,7 @@ impl Store for ListStore<'_> {
                 self.pairs.set(i, Pair { value, ..pair });
                 Ok(())
             }
+            // arms, as in `read`: of `map_err` the check learns no more
             None => match self.pairs.push(Pair { key, value }) {
                 Ok(()) => Ok(()),
                 Err(_) => Err(Refusal::Full),
