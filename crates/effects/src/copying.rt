@@ -8,7 +8,7 @@ pub(crate) fn copy_string(string: Span, bytes: Bytes<'_, '_, '_>, to: &mut [u8])
     requires { length to.old ≡ string.len }
     ensures { to.new ≡ bytes_of (memory_of bytes.entry) string }
 {
-    let start = string.start as usize;
+    let start = usize::from(string.start);
     for (i, byte) in to.iter_mut().enumerate() {
         *byte = byte_at(bytes, string.space, start + i);
     }

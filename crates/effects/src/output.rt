@@ -61,7 +61,7 @@ impl<'o> Output<'o> {
         ensures printed { Prints (bytes_of (memory_of bytes.entry) string) self.old result self.new }
         ensures lent { SameSlice self.old.bytes self.new.bytes }
     {
-        let end = self.end(string.len as usize)?;
+        let end = self.end(usize::from(string.len))?;
         copy_string(string, bytes, &mut self.bytes[self.printed..end]);
         self.printed = end;
         Ok(())

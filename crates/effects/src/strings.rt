@@ -53,7 +53,7 @@ impl<'m> Strings<'m> {
         ensures within { Behind n self.old result self.new }
         ensures lent { self.new.bytes ≡ self.old.bytes }
     {
-        let room = self.bytes.len().min(STRING_BYTES) - self.used as usize;
+        let room = self.bytes.len().min(STRING_BYTES) - usize::from(self.used);
         if self.count >= STRINGS || n > room {
             return Err(Ending::NoTextSpace);
         }
@@ -75,7 +75,7 @@ impl<'m> Strings<'m> {
         let mut buffer = Buffer::new();
         let digits = buffer.format(n).as_bytes();
         let string = self.add(digits.len())?;
-        let start = string.start as usize;
+        let start = usize::from(string.start);
         self.bytes[start..start + digits.len()].copy_from_slice(digits);
         Ok(string)
     }
@@ -85,11 +85,11 @@ impl<'m> Strings<'m> {
         ensures made { most_string_bytes ≤ length self.old.bytes.now → made_end a ≤ self.old.used → made_end b ≤ self.old.used → Makes (bytes_of (memory_with literals.entry self.old.bytes.now) a ++ bytes_of (memory_with literals.entry self.old.bytes.now) b) self.old result self.new }
         ensures lent { SameSlice self.old.bytes self.new.bytes }
     {
-        let m = a.len as usize;
-        let n = b.len as usize;
+        let m = usize::from(a.len);
+        let n = usize::from(b.len);
         let string = self.add(m + n)?;
         let all = &mut *self.bytes;
-        let (made, room) = all.split_at_mut(string.start as usize);
+        let (made, room) = all.split_at_mut(usize::from(string.start));
         let bytes = Bytes {
             fixed: literals.fixed,
             texts: literals.texts,

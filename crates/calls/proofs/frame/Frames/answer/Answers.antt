@@ -1,4 +1,4 @@
-use Rattle.std.proofs.Common.{◌≡◌, ℕ, ◌+◌, ◌*◌, ◌<◌, ◌≤◌, List, length, set, Some, Option, sym, refl, ap, ◌∙◌, subst, add-one, arith}
+use Rattle.std.proofs.Common.{◌≡◌, ℕ, ◌+◌, ◌*◌, ◌<◌, ◌≤◌, List, length, set, Some, Option, sym, refl, ap, ◌∙◌, subst, arith}
 use Rattle.std.proofs.lemmas.Result.{err_from_is_err_and}
 use Rattle.text.specs.Memory.{Memory}
 use Rattle.store.specs.declared.value.Value.{Value}
@@ -52,4 +52,4 @@ returns-clause-called c =
     let h = c.in_ok-v.ensures.applied c.requires.roomy.strings (subst (Within a.spent.now.strings.used) (sym c.current.ensures) (live (waiting f) (omega arith))) in
     answer-goes a.builtin g a.passed.first.0 a.passed.last.0 T G b c.in_ok-v.v c.apply.new.spent _
     (answers-as a.literals _ _ _ a.spent.now _ (here a.builtin (memory_of b) _ _ a.passed.first.0 a.passed.last.0 (effects_of a.spent.now) c.current.ensures) h)
-    (ap (λ n. set f.registers.now (n + a.passed.first.0) (Some c.in_ok-v.v)) c.base-base.ensures) low fit refl refl (add-one _) refl live
+    (ap (λ n. set f.registers.now (n + a.passed.first.0) (Some c.in_ok-v.v)) c.base-base.ensures) low fit refl refl c.next-self.ensures.behind refl live
