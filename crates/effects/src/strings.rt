@@ -1,5 +1,5 @@
 // The string space, in lent bytes: strings are only ever added behind those made before.
-ghost use Rattle.std.specs.Prelude.{◌≡◌, ◌<◌, ◌≤◌, ◌++◌, length};
+ghost use Rattle.std.specs.Prelude.{◌≡◌, ◌≤◌, min, ◌++◌, length};
 ghost use Rattle.std.specs.Fmt.{signed_decimal};
 ghost use Rattle.text.specs.Agree.{made_end};
 ghost use Rattle.text.specs.Memory.{bytes_of};
@@ -18,9 +18,9 @@ pub const STRING_BYTES: usize = 32768;
 // The bytes lent, how many of them strings take, and how many strings there are.
 #[derive(Drop)]
 pub struct Strings<'m> {
-    pub bytes: &'m mut [u8],
-    pub used: u16,
-    pub count: u16,
+    pub(crate) bytes: &'m mut [u8],
+    pub(crate) used: u16,
+    pub(crate) count: u16,
     ghost within: { used ≤ length bytes.now },
     ghost few: { used ≤ most_string_bytes },
 }
@@ -37,6 +37,30 @@ impl<'m> Strings<'m> {
             used: 0,
             count: 0,
         }
+    }
+
+    // Strings that stand in lent bytes, of which they take the first `used`, or as many as they may.
+    pub fn resume(bytes: &'m mut [u8], used: u16, count: u16) -> Strings<'m>
+        ensures used { result.used ≡ min (min used (length bytes.old)) most_string_bytes }
+        ensures count { result.count ≡ count }
+        ensures lent { result.bytes ≡ bytes.entry }
+    {
+        let used = usize::from(used).min(bytes.len()).min(STRING_BYTES) as u16;
+        Strings { bytes, used, count }
+    }
+
+    // How many bytes are lent.
+    pub fn room(&self) -> usize
+        ensures bytes { result ≡ length self.now.bytes.now }
+    {
+        self.bytes.len()
+    }
+
+    // How many bytes strings take, and how many strings there are.
+    pub fn taken(&self) -> (u16, u16)
+        ensures numbers { (result.0 ≡ self.now.used) × (result.1 ≡ self.now.count) }
+    {
+        (self.used, self.count)
     }
 
     pub fn clear(&mut self)

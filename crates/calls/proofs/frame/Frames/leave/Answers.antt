@@ -53,7 +53,7 @@ returns-clause-left c =
     let less = one-less fs x top in
     let sized = c.requires.registers in
     let gs = popped fs x top c.pop.result _ c.pop.ensures.held in
-    let base = c.base-base.ensures ∙ ap (λ (z : List Frame). registers_per_frame * length z) gs in
+    let base = c.base-base.ensures.place ∙ ap (λ (z : List Frame). registers_per_frame * length z) gs in
     λ m W. leave-goes (program_of m a.code.sealed.now a.code.records.now) m W xs fs (waiting f) a.answer k less _ (c.in_ok-to.ensures.of_the_call m ∙ call-of (program_of m a.code.sealed.now a.code.records.now) fs k x (latest fs x top)) _ _ _ _ c.if-to-ge-REGISTERS.false (omega arith) (ap (λ b. set xs (b + c.in_ok-to.field-0.0) (Some a.answer)) base) (ap (λ (f : Frame). f.function.0) (latest fs x top)) (c.next.ensures.behind ∙ ap (λ (f : Frame). suc f.pc.0) (latest fs x top)) (ap length gs) (below fs x top _ gs)
 
 pub returns-clause-callers_kept : goal.returns-clause-callers_kept
@@ -72,5 +72,5 @@ returns-clause-within c =
     let less = one-less fs x top in
     let sized = c.requires.registers in
     let gs = popped fs x top c.pop.result _ c.pop.ensures.held in
-    let base = c.base-base.ensures ∙ ap (λ (z : List Frame). registers_per_frame * length z) gs in
+    let base = c.base-base.ensures.place ∙ ap (λ (z : List Frame). registers_per_frame * length z) gs in
     λ u h e. subst (LiveIn u _) (sym (ap length gs)) (written-within xs _ k _ a.answer (ap (λ b. set xs (b + c.in_ok-to.field-0.0) (Some a.answer)) base) c.if-to-ge-REGISTERS.false (omega arith) u (λ j l. h j (omega arith)) e)

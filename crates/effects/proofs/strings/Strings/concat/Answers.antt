@@ -33,5 +33,5 @@ returns-clause-made c =
     λ h ha hb. (
       (λ o. ap (λ k. charge k (effects_with p o)) n ∙ e.charged h o),
       e.within.0 ∙ ap (behind p) (sym n),
-      concat-laid m a.a a.b _ _ _ _ _ p.used _ _ _ (c.from.ensures ∙ ap (λ (t : Span). t.start) e.within.0) c.from-m.ensures c.from-n.ensures (ap (λ (b : MutBor (List ℕ)). b.now) e.lent) parts.front parts.back c.copy_string.ensures c.copy_string-2.ensures ha hb (omega (arith, c.add.new.self.within, e.within.1, c.from-m.ensures, c.from-n.ensures, ap (λ (b : MutBor (List ℕ)). length b.now) e.lent)),
+      concat-laid m a.a a.b _ _ _ _ _ p.used _ _ _ (c.from.ensures ∙ ap (λ (t : Span). t.start) e.within.0) c.from-m.ensures c.from-n.ensures (ap (λ (b : MutBor (List ℕ)). b.now) e.lent) parts.front parts.back c.copy_string.ensures.copied c.copy_string-2.ensures.copied ha hb (omega (arith, c.add.new.self.within, e.within.1, c.from-m.ensures, c.from-n.ensures, ap (λ (b : MutBor (List ℕ)). length b.now) e.lent)),
     )
