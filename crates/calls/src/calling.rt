@@ -8,7 +8,6 @@ ghost use Rattle.calls.specs.Calling.{content, Roomy, world_in, state_in, answer
 use crate::builtins::apply;
 use crate::frame::Frames;
 use crate::passed::Passed;
-use code::table::Place;
 use effects::literals::Literals;
 use effects::spent::Spent;
 use machine::builtin::{Builtin, NotBuiltin};
@@ -34,7 +33,7 @@ impl Frames<'_, '_> {
         let v = apply(builtin, self.current(), passed, literals, spent)?;
         let base = self.base();
         self.registers[base + passed.first.0 as usize] = Some(v);
-        self.running.pc = Place(self.running.pc.0 + 1);
+        self.running.pc = self.running.pc.next();
         Ok(())
     }
 

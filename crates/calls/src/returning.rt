@@ -10,7 +10,7 @@ ghost use Rattle.calls.specs.Frames.{callers_in, LiveWithin, Sized, SameFrames, 
 
 use crate::frame::{Frame, Frames, REGISTERS};
 use crate::program::Code;
-use code::table::{Place, Record};
+use code::table::Record;
 use machine::ending::Ending;
 use machine::instruction::{Instruction, Register};
 use store::value::Value;
@@ -36,6 +36,7 @@ impl Frames<'_, '_> {
     pub fn leave(&mut self, answer: Value, code: Code<'_, '_, '_>) -> Result<(), Ending>
         requires { Sized self.old }
         ensures left { (m : Memory) (W : World) → Moved m W (return (program_of m code.entry.sealed.now code.entry.records.now) (meaning m answer) (callers_in m self.old) W) result self.old self.new }
+        ensures callers_kept { self.new.callers.items.now ≡ self.old.callers.items.now }
         ensures within { (u : ℕ) → LiveWithin u self.old → end_of answer ≤ u → LiveWithin u self.new }
         ensures lent { SameFrames self.old self.new }
     {
@@ -51,7 +52,7 @@ impl Frames<'_, '_> {
         self.registers[base + to] = Some(answer);
         self.running = Frame {
             function: caller.function,
-            pc: Place(caller.pc.0 + 1),
+            pc: caller.pc.next(),
         };
         Ok(())
     }

@@ -50,11 +50,11 @@ both-laid xs made room one two u a b em er ea eb h =
     rw (em, er) (same_lists _ _ (search (rules, places)) (λ k d l. grind (arith, places)))
 
 -- what a concatenation leaves, where both strings are read from the bytes before u
-pub concat-laid : (m : Memory) (a b : Span) (xs made room one two : List ℕ) (u s : ℕ) → s ≡ u → xs ≡ m.made → made ≡ take s xs → room ≡ drop s xs → one ≡ bytes_of (record { fixed = m.fixed; texts = m.texts; made = made }) a → two ≡ bytes_of (record { fixed = m.fixed; texts = m.texts; made = made }) b → made_end a ≤ u → made_end b ≤ u → u + (a.len + b.len) ≤ length m.made → made ++ (take a.len (one ++ drop a.len room) ++ (two ++ post_of a.len (a.len + b.len - a.len) (one ++ drop a.len room))) ≡ laid m.made u (bytes_of m a ++ bytes_of m b)
-concat-laid m a b xs made room one two u s es ex em er ea eb ha hb h =
+pub concat-laid : (m : Memory) (a b : Span) (xs made room one two : List ℕ) (u s j k : ℕ) → s ≡ u → j ≡ a.len → k ≡ b.len → xs ≡ m.made → made ≡ take s xs → room ≡ drop s xs → one ≡ bytes_of (record { fixed = m.fixed; texts = m.texts; made = made }) a → two ≡ bytes_of (record { fixed = m.fixed; texts = m.texts; made = made }) b → made_end a ≤ u → made_end b ≤ u → u + (a.len + b.len) ≤ length m.made → made ++ (take j (one ++ drop j room) ++ (two ++ post_of j (j + k - j) (one ++ drop j room))) ≡ laid m.made u (bytes_of m a ++ bytes_of m b)
+concat-laid m a b xs made room one two u s j k es ej ek ex em er ea eb ha hb h =
     let x : one ≡ bytes_of m a = rw (ea, em, es, ex) (front-means m u a ha) in
     let y : two ≡ bytes_of m b = rw (eb, em, es, ex) (front-means m u b hb) in
     let am = rw (es, ex) at em in
     let ar = rw (es, ex) at er in
-    both-laid m.made made room one two u a.len b.len am ar (ap length x ∙ length-bytes_of m a) (ap length y ∙ length-bytes_of m b) h
+    both-laid m.made made room one two u j k am ar (ap length x ∙ length-bytes_of m a ∙ sym ej) (ap length y ∙ length-bytes_of m b ∙ sym ek) (omega arith)
     ∙ (λ i. laid m.made u (x i ++ y i))

@@ -5,10 +5,10 @@ ghost use Rattle.text.specs.Memory.{memory_of, bytes_of};
 use text::span::{Bytes, Span, byte_at};
 
 pub(crate) fn copy_string(string: Span, bytes: Bytes<'_, '_, '_>, to: &mut [u8])
-    requires { length to.old ≡ string.len }
-    ensures { to.new ≡ bytes_of (memory_of bytes.entry) string }
+    requires fits { length to.old ≡ string.len }
+    ensures copied { to.new ≡ bytes_of (memory_of bytes.entry) string }
 {
-    let start = string.start as usize;
+    let start = usize::from(string.start);
     for (i, byte) in to.iter_mut().enumerate() {
         *byte = byte_at(bytes, string.space, start + i);
     }

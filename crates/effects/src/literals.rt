@@ -6,7 +6,7 @@ ghost use Rattle.effects.specs.Spending.{memory_with};
 use crate::strings::Strings;
 use text::span::Bytes;
 
-#[derive(Clone, Copy)]
+#[derive(Clone, Copy, Debug)]
 pub struct Literals<'f, 't> {
     pub fixed: &'f [u8],
     pub texts: &'t [u8],
@@ -15,7 +15,7 @@ pub struct Literals<'f, 't> {
 impl<'f, 't> Literals<'f, 't> {
     // With the strings made, all bytes that a string can lie in.
     pub fn with<'m>(self, strings: &'m Strings<'_>) -> Bytes<'f, 't, 'm>
-        ensures { memory_of result ≡ memory_with self.entry strings.now.bytes.now }
+        ensures memory { memory_of result ≡ memory_with self.entry strings.now.bytes.now }
     {
         Bytes {
             fixed: self.fixed,

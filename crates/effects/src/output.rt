@@ -1,5 +1,5 @@
 // The output of a run, in lent bytes.
-ghost use Rattle.std.specs.Prelude.{◌≡◌, ◌≤◌, length};
+ghost use Rattle.std.specs.Prelude.{◌≡◌, ◌≤◌, min, length};
 ghost use Rattle.std.specs.Fmt.{signed_decimal};
 ghost use Rattle.text.specs.Memory.{memory_of, bytes_of};
 
@@ -11,8 +11,8 @@ use text::span::{Bytes, Span};
 // The bytes lent, and how many of them are printed.
 #[derive(Drop)]
 pub struct Output<'o> {
-    pub bytes: &'o mut [u8],
-    pub printed: usize,
+    pub(crate) bytes: &'o mut [u8],
+    pub(crate) printed: usize,
     ghost within: { printed ≤ length bytes.now },
 }
 
@@ -26,6 +26,15 @@ impl<'o> Output<'o> {
         Output { bytes, printed: 0 }
     }
 
+    // Output that stands in lent bytes: the first `printed`, or all if there are fewer.
+    pub fn resume(bytes: &'o mut [u8], printed: usize) -> Output<'o>
+        ensures printed { result.printed ≡ min printed (length bytes.old) }
+        ensures lent { result.bytes ≡ bytes.entry }
+    {
+        let printed = printed.min(bytes.len());
+        Output { bytes, printed }
+    }
+
     pub fn clear(&mut self)
         ensures none { self.new.printed ≡ 0 }
         ensures lent { self.new.bytes ≡ self.old.bytes }
@@ -35,7 +44,7 @@ impl<'o> Output<'o> {
 
     // Where n more bytes end, or no space for them.
     fn end(&self, n: usize) -> Result<usize, Ending>
-        ensures { Room n self.now result }
+        ensures room { Room n self.now result }
     {
         if n > self.bytes.len() - self.printed {
             Err(Ending::NoOutputSpace)
@@ -61,7 +70,7 @@ impl<'o> Output<'o> {
         ensures printed { Prints (bytes_of (memory_of bytes.entry) string) self.old result self.new }
         ensures lent { SameSlice self.old.bytes self.new.bytes }
     {
-        let end = self.end(string.len as usize)?;
+        let end = self.end(usize::from(string.len))?;
         copy_string(string, bytes, &mut self.bytes[self.printed..end]);
         self.printed = end;
         Ok(())

@@ -24,7 +24,7 @@ impl<'m, 'o> Spent<'m, 'o> {
 
     // The bytes printed.
     pub fn printed(&self) -> &[u8]
-        ensures { result.now ≡ take self.now.output.printed self.now.output.bytes.now }
+        ensures bytes { result.now ≡ take self.now.output.printed self.now.output.bytes.now }
     {
         &self.output.bytes[..self.output.printed]
     }

@@ -1,5 +1,5 @@
 // The string space, in lent bytes: strings are only ever added behind those made before.
-ghost use Rattle.std.specs.Prelude.{◌≡◌, ◌<◌, ◌≤◌, ◌++◌, length};
+ghost use Rattle.std.specs.Prelude.{◌≡◌, ◌≤◌, min, ◌++◌, length};
 ghost use Rattle.std.specs.Fmt.{signed_decimal};
 ghost use Rattle.text.specs.Agree.{made_end};
 ghost use Rattle.text.specs.Memory.{bytes_of};
@@ -18,9 +18,9 @@ pub const STRING_BYTES: usize = 32768;
 // The bytes lent, how many of them strings take, and how many strings there are.
 #[derive(Drop)]
 pub struct Strings<'m> {
-    pub bytes: &'m mut [u8],
-    pub used: u16,
-    pub count: u16,
+    pub(crate) bytes: &'m mut [u8],
+    pub(crate) used: u16,
+    pub(crate) count: u16,
     ghost within: { used ≤ length bytes.now },
     ghost few: { used ≤ most_string_bytes },
 }
@@ -39,6 +39,30 @@ impl<'m> Strings<'m> {
         }
     }
 
+    // Strings that stand in lent bytes, of which they take the first `used`, or as many as they may.
+    pub fn resume(bytes: &'m mut [u8], used: u16, count: u16) -> Strings<'m>
+        ensures used { result.used ≡ min (min used (length bytes.old)) most_string_bytes }
+        ensures count { result.count ≡ count }
+        ensures lent { result.bytes ≡ bytes.entry }
+    {
+        let used = usize::from(used).min(bytes.len()).min(STRING_BYTES) as u16;
+        Strings { bytes, used, count }
+    }
+
+    // How many bytes are lent.
+    pub fn room(&self) -> usize
+        ensures bytes { result ≡ length self.now.bytes.now }
+    {
+        self.bytes.len()
+    }
+
+    // How many bytes strings take, and how many strings there are.
+    pub fn taken(&self) -> (u16, u16)
+        ensures numbers { (result.0 ≡ self.now.used) × (result.1 ≡ self.now.count) }
+    {
+        (self.used, self.count)
+    }
+
     pub fn clear(&mut self)
         ensures none { (self.new.count ≡ 0) × (self.new.used ≡ 0) }
         ensures lent { self.new.bytes ≡ self.old.bytes }
@@ -53,7 +77,7 @@ impl<'m> Strings<'m> {
         ensures within { Behind n self.old result self.new }
         ensures lent { self.new.bytes ≡ self.old.bytes }
     {
-        let room = self.bytes.len().min(STRING_BYTES) - self.used as usize;
+        let room = self.bytes.len().min(STRING_BYTES) - usize::from(self.used);
         if self.count >= STRINGS || n > room {
             return Err(Ending::NoTextSpace);
         }
@@ -75,7 +99,7 @@ impl<'m> Strings<'m> {
         let mut buffer = Buffer::new();
         let digits = buffer.format(n).as_bytes();
         let string = self.add(digits.len())?;
-        let start = string.start as usize;
+        let start = usize::from(string.start);
         self.bytes[start..start + digits.len()].copy_from_slice(digits);
         Ok(string)
     }
@@ -85,11 +109,11 @@ impl<'m> Strings<'m> {
         ensures made { most_string_bytes ≤ length self.old.bytes.now → made_end a ≤ self.old.used → made_end b ≤ self.old.used → Makes (bytes_of (memory_with literals.entry self.old.bytes.now) a ++ bytes_of (memory_with literals.entry self.old.bytes.now) b) self.old result self.new }
         ensures lent { SameSlice self.old.bytes self.new.bytes }
     {
-        let m = a.len as usize;
-        let n = b.len as usize;
+        let m = usize::from(a.len);
+        let n = usize::from(b.len);
         let string = self.add(m + n)?;
         let all = &mut *self.bytes;
-        let (made, room) = all.split_at_mut(string.start as usize);
+        let (made, room) = all.split_at_mut(usize::from(string.start));
         let bytes = Bytes {
             fixed: literals.fixed,
             texts: literals.texts,

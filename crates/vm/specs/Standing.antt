@@ -1,5 +1,6 @@
 -- When lent memory stands for a state of the machine, and what a step leaves. Assumes nothing.
-use Rattle.std.specs.Prelude.{◌≡◌, ℕ, ◌<◌, ◌≤◌, List, length, take, Ok, Err, Result, slice_index_or}
+use Rattle.std.specs.Prelude.{◌≡◌, ℕ, ◌<◌, ◌≤◌, List, [], length, take, Ok, Err, Result, slice_index_or}
+use Rattle.stack.specs.Held.{held}
 use Rattle.text.specs.Memory.{Memory}
 use Rattle.store.specs.declared.Store.{Ghosts}
 use Rattle.store.specs.Tables.{Tables}
@@ -48,6 +49,16 @@ pub record Roomy (r : Run) : Type 0 where
 pub record SameMemory (r q : Run) : Type 0 where
   pub frames : SameFrames r.frames q.frames
   pub space : SameSpace r.spent q.spent
+
+-- a run that begins as r did, whatever stands beyond what it holds
+pub record Begins (r q : Run) : Type 0 where
+  pub running : q.frames.running ≡ r.frames.running
+  pub callers : held q.frames.callers ≡ []
+  pub registers : q.frames.registers.now ≡ r.frames.registers.now
+  pub globals : q.globals ≡ r.globals
+  pub count : q.spent.strings.count ≡ 0
+  pub used : q.spent.strings.used ≡ 0
+  pub printed : q.spent.output.printed ≡ 0
 
 -- what a store has room for
 abbrev pub limits_of : {S : Type 0} → Ghosts S → S → Limits

@@ -4,7 +4,9 @@ ghost use Rattle.machine.specs.Limits.{Limits, registers_per_frame};
 ghost use Rattle.machine.specs.Instr.{Program};
 ghost use Rattle.machine.specs.State.{State, initial};
 ghost use Rattle.machine.specs.Step.{step};
-ghost use Rattle.stack.specs.Held.{held};
+ghost use Rattle.text.specs.Memory.{Memory};
+ghost use Rattle.stack.specs.Held.{held, room};
+ghost use Rattle.operands.specs.Globals.{globals_of};
 ghost use Rattle.calls.specs.Applying.{memory_in};
 ghost use Rattle.code.specs.Programs.{program_of};
 ghost use Rattle.vm.specs.Running.{Stepped, RanBy, RanTo};
@@ -38,9 +40,9 @@ pub struct Run<'c, 'r, 'm, 'o> {
 }
 
 impl<'c, 'r, 'm, 'o> Run<'c, 'r, 'm, 'o> {
-    ghost use Rattle.vm.specs.Standing.{lent, limits_of, CodeWithin, Roomy, SameMemory, Stands, Steps};
+    ghost use Rattle.vm.specs.Standing.{lent, limits_of, CodeWithin, Roomy, Begins, SameMemory, Stands, Steps};
 
-    // Memory that nothing was done in.
+    // No caller, no global, nothing made or printed; `begin` unsets the registers.
     pub fn new(
         callers: &'c mut [Frame],
         registers: &'r mut [Option<Value>],
@@ -48,6 +50,9 @@ impl<'c, 'r, 'm, 'o> Run<'c, 'r, 'm, 'o> {
         output: &'o mut [u8],
     ) -> Run<'c, 'r, 'm, 'o>
         ensures none { held result.frames.callers ≡ [] }
+        ensures first { (result.frames.running.function.0 ≡ 0) × (result.frames.running.pc.0 ≡ 0) }
+        ensures globals { (m : Memory) → globals_of m result.globals ≡ [] }
+        ensures callers { (result.frames.callers.items.ghost_name ≡ callers.entry.ghost_name) × (room result.frames.callers ≡ length callers.old) }
         ensures nothing { (result.spent.strings.count ≡ 0) × (result.spent.strings.used ≡ 0) × (result.spent.output.printed ≡ 0) }
         ensures registers { result.frames.registers ≡ registers.entry }
         ensures strings { result.spent.strings.bytes ≡ strings.entry }
@@ -62,7 +67,9 @@ impl<'c, 'r, 'm, 'o> Run<'c, 'r, 'm, 'o> {
 
     // A run begins: one frame, no register set, no global, no table, nothing made or printed.
     pub fn begin<S: Store>(&mut self, store: &mut S) -> Result<(), TooSmall>
-        ensures begun { OnOk result ((code : Code) → CodeWithin 0 code.sealed.now code.records.now → Stands S.Store store.new (lent code self.new) (program_of (memory_in code.literals self.new.spent) code.sealed.now code.records.now) (limits_of S.Store store.old) (initial (length self.new.spent.output.bytes.now))) }
+        ensures begun { OnOk result ((code : Code) (r : Run) → Begins self.new r → CodeWithin 0 code.sealed.now code.records.now → Stands S.Store store.new (lent code r) (program_of (memory_in code.literals r.spent) code.sealed.now code.records.now) (limits_of S.Store store.old) (initial (length r.spent.output.bytes.now))) }
+        ensures begins { OnOk result (Begins self.new self.new) }
+        ensures kept { (self.new.spent.strings.bytes ≡ self.old.spent.strings.bytes) × (self.new.spent.output.bytes ≡ self.old.spent.output.bytes) × (self.new.frames.callers.items ≡ self.old.frames.callers.items) }
         ensures refused { MatchResult result (λ _. registers_per_frame ≤ length self.old.frames.registers.now) (λ _. (length self.old.frames.registers.now < registers_per_frame) × (self.new ≡ self.old) × (store.new ≡ store.old)) }
         ensures lent { SameMemory self.old self.new }
     {
@@ -79,11 +86,11 @@ impl<'c, 'r, 'm, 'o> Run<'c, 'r, 'm, 'o> {
 
     // Whether there is memory for all that a step can leave.
     fn fits(&self) -> bool
-        ensures { MatchBool result (Roomy self.now) (Roomy self.now → ⊥) }
+        ensures roomy { MatchBool result (Roomy self.now) (Roomy self.now → ⊥) }
     {
         self.frames.callers.room() >= FRAMES - 1
             && self.frames.registers.len() >= REGISTERS * FRAMES
-            && self.spent.strings.bytes.len() >= STRING_BYTES
+            && self.spent.strings.room() >= STRING_BYTES
     }
 
     fn advance<S: Store>(&mut self, code: Code<'_, '_, '_>, store: &mut S) -> Result<(), Ending>

@@ -9,5 +9,7 @@ returns c =
     let m = memory_of c.args.bytes in
     let s = c.args.string in
     let n = length-bytes_of m s in
-    same_lists _ _ (omega (arith, c.requires))
-    (λ k d h. get_or_default _ k d 0 h ∙ c.loop-i.invariant k (omega (arith, c.requires)) ∙ sym (get_or-bytes_of m s k d (omega (arith, c.requires))))
+    record {
+      copied = same_lists _ _ (omega (arith, c.requires.fits))
+          (λ k d h. get_or_default _ k d 0 h ∙ c.loop-i.invariant k (omega (arith, c.requires.fits)) ∙ sym (get_or-bytes_of m s k d (omega (arith, c.requires.fits))));
+    }

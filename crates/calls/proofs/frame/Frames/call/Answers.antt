@@ -18,14 +18,14 @@ returns-in_err-name-clause-called c =
     let a = c.args in
     let b = content a.literals a.spent.now a.self.now in
     rw (p.1, p.2)
-    (λ T G live. (call-nothing a.a.0 a.passed.first.0 a.passed.last.0 T G b _ (c.in_err-name.ensures.held (memory_of b) ∙ here (memory_of b) _ _ a.a.0 c.current.ensures), refl))
+    (λ T G live. (call-nothing a.a.0 a.passed.first.0 a.passed.last.0 T G b _ (c.in_err-name.ensures.held (memory_of b) ∙ here (memory_of b) _ _ a.a.0 c.current.ensures.window), refl))
 
 pub returns-in-Ok-clause-called : goal.returns-in-Ok-clause-called
 returns-in-Ok-clause-called c =
     let a = c.args in
     let b = content a.literals a.spent.now a.self.now in
     let g = c.in_ok-name.name.0 in
-    let f = c.in_ok-name.ensures.held (memory_of b) ∙ here (memory_of b) _ _ a.a.0 c.current.ensures in
+    let f = c.in_ok-name.ensures.held (memory_of b) ∙ here (memory_of b) _ _ a.a.0 c.current.ensures.window in
     λ T G live.
     called-as b T G _ _ c.answer.result _
     (call-answers a.a.0 a.passed.first.0 a.passed.last.0 T G b g f c.in-Ok.builtin c.in-Ok.ensures)
@@ -36,7 +36,7 @@ returns-in-Err-clause-called c =
     let a = c.args in
     let b = content a.literals a.spent.now a.self.now in
     let g = c.in_ok-name.name.0 in
-    let f = c.in_ok-name.ensures.held (memory_of b) ∙ here (memory_of b) _ _ a.a.0 c.current.ensures in
+    let f = c.in_ok-name.ensures.held (memory_of b) ∙ here (memory_of b) _ _ a.a.0 c.current.ensures.window in
     let n = c.enter.ensures in
     λ T G live.
     called-as b T G _ _ c.enter.result _

@@ -24,7 +24,7 @@ returns-in_err-places-clause-entered c =
     let a = c.args in
     let f = a.self.now in
     rw (p.1, p.2)
-    (λ m W. (enter-stuck m W f.registers.now (held f.callers) (waiting f) f.running a.function.0 a.passed.first.0 a.passed.last.0 _ (here m _ _ a.passed.first.0 a.passed.last.0 c.current.ensures ∙ c.in_err-places.ensures.passed m), refl))
+    (λ m W. (enter-stuck m W f.registers.now (held f.callers) (waiting f) f.running a.function.0 a.passed.first.0 a.passed.last.0 _ (here m _ _ a.passed.first.0 a.passed.last.0 c.current.ensures.window ∙ c.in_err-places.ensures.passed m), refl))
 
 pub returns-then-len-ge-FRAMES-clause-entered : goal.returns-then-len-ge-FRAMES-clause-entered
 returns-then-len-ge-FRAMES-clause-entered c =
@@ -32,7 +32,7 @@ returns-then-len-ge-FRAMES-clause-entered c =
     let f = a.self.now in
     λ m W.
     let v = c.in_ok-places.ensures.passed m in
-    (enter-full m W f.registers.now (held f.callers) (waiting f) f.running a.function.0 a.passed.first.0 a.passed.last.0 v.0 (here m _ _ a.passed.first.0 a.passed.last.0 c.current.ensures ∙ v.1) (omega (arith, c.len.ensures, c.if-len-ge-FRAMES.true)), refl)
+    (enter-full m W f.registers.now (held f.callers) (waiting f) f.running a.function.0 a.passed.first.0 a.passed.last.0 v.0 (here m _ _ a.passed.first.0 a.passed.last.0 c.current.ensures.window ∙ v.1) (omega (arith, c.len.ensures, c.if-len-ge-FRAMES.true)), refl)
 
 pub pass-requires : goal.pass-requires
 pass-requires c =
@@ -40,9 +40,9 @@ pass-requires c =
     let w = waiting f in
     let few = c.if-len-ge-FRAMES.false in
     let sized = c.requires.registers in
-    let long = ap length c.current.ensures ∙ length-window f.registers.now w (omega (arith, c.len.ensures)) in
+    let long = ap length c.current.ensures.window ∙ length-window f.registers.now w (omega (arith, c.len.ensures)) in
     let within = c.in_ok-places.ensures.within in
-    (within.0, omega (arith, within.1), omega (arith, c.base-base.ensures, c.len.ensures))
+    (within.0, omega (arith, within.1), omega (arith, c.base-base.ensures.place, c.len.ensures))
 
 pub returns-clause-entered : goal.returns-clause-entered
 returns-clause-entered c =
@@ -55,11 +55,11 @@ returns-clause-entered c =
     let from = c.in_ok-places.places.start in
     let n = c.in_ok-places.places.end - from in
     let within = c.in_ok-places.ensures.within in
-    let fit : from + n ≤ registers_per_frame = omega (arith, within.0, within.1, ap length c.current.ensures, length-window xs w (omega arith)) in
+    let fit : from + n ≤ registers_per_frame = omega (arith, within.0, within.1, ap length c.current.ensures.window, length-window xs w (omega arith)) in
     let callers = pushed c.push.result (held f.callers) _ f.running (room f.callers) (omega (arith, c.requires.callers)) c.push.ensures.full c.push.ensures.held in
-    let ey = c.pass.ensures ∙ ap (λ b. laid xs (b + registers_per_frame) (handed xs (b + from) n)) c.base-base.ensures in
+    let ey = c.pass.ensures ∙ ap (λ b. laid xs (b + registers_per_frame) (handed xs (b + from) n)) c.base-base.ensures.place in
     λ m W.
-    let v = subst (λ (z : List (Option Value)). Passes m z (arguments_at (registers_of m z) a.passed.first.0 a.passed.last.0) (Ok c.in_ok-places.places)) c.current.ensures (c.in_ok-places.ensures.passed m) in
+    let v = subst (λ (z : List (Option Value)). Passes m z (arguments_at (registers_of m z) a.passed.first.0 a.passed.last.0) (Ok c.in_ok-places.places)) c.current.ensures.window (c.in_ok-places.ensures.passed m) in
     enter-fits m W xs (held f.callers) w f.running a.function.0 a.passed.first.0 a.passed.last.0 v.0 v.1 from n _ _ _ _ v.2 v.3 fit (omega arith) refl sized ey callers refl refl (ap length callers ∙ length_push (held f.callers) f.running)
 
 pub returns-clause-within : goal.returns-clause-within
@@ -73,7 +73,7 @@ returns-clause-within c =
     let from = c.in_ok-places.places.start in
     let n = c.in_ok-places.places.end - from in
     let within = c.in_ok-places.ensures.within in
-    let fit : from + n ≤ registers_per_frame = omega (arith, within.0, within.1, ap length c.current.ensures, length-window xs w (omega arith)) in
+    let fit : from + n ≤ registers_per_frame = omega (arith, within.0, within.1, ap length c.current.ensures.window, length-window xs w (omega arith)) in
     let callers = pushed c.push.result (held f.callers) _ f.running (room f.callers) (omega (arith, c.requires.callers)) c.push.ensures.full c.push.ensures.held in
-    let ey = c.pass.ensures ∙ ap (λ b. laid xs (b + registers_per_frame) (handed xs (b + from) n)) c.base-base.ensures in
+    let ey = c.pass.ensures ∙ ap (λ b. laid xs (b + registers_per_frame) (handed xs (b + from) n)) c.base-base.ensures.place in
     λ u h k l. enter-within xs w from n fit (omega arith) sized u _ _ k ey (ap length callers ∙ length_push (held f.callers) f.running) h l

@@ -1,4 +1,4 @@
-use Rattle.std.proofs.Common.{◌≡◌, ℕ, suc, ◌+◌, ◌*◌, List, length, get_or, set, Some, sym, refl, ap, ◌∙◌, subst, add-one, arith}
+use Rattle.std.proofs.Common.{◌≡◌, ℕ, suc, ◌+◌, ◌*◌, List, length, get_or, set, Some, sym, refl, ap, ◌∙◌, subst, arith}
 use Rattle.std.proofs.lemmas.Result.{err_from_is_err_and}
 use Rattle.stack.specs.Held.{held, front}
 use Rattle.machine.specs.Limits.{registers_per_frame}
@@ -6,7 +6,7 @@ use Rattle.machine.specs.Instr.{Program, fetch}
 use Rattle.code.specs.Programs.{program_of}
 use Rattle.calls.specs.declared.frame.Frame.{Frame}
 use Rattle.calls.specs.Frames.{waiting, no_frame, target_of, LiveIn}
-use Rattle.calls.proofs.Stacked.{one-less, latest, popped, below}
+use Rattle.calls.proofs.Stacked.{one-less, latest, popped, below, kept}
 use Rattle.calls.proofs.Writing.{written-within, leave-last, leave-stuck, leave-nowhere, leave-goes}
 use Rattle.calls.proofs.frame.Frames.leave.Goals as goal
 
@@ -53,8 +53,11 @@ returns-clause-left c =
     let less = one-less fs x top in
     let sized = c.requires.registers in
     let gs = popped fs x top c.pop.result _ c.pop.ensures.held in
-    let base = c.base-base.ensures ∙ ap (λ (z : List Frame). registers_per_frame * length z) gs in
-    λ m W. leave-goes (program_of m a.code.sealed.now a.code.records.now) m W xs fs (waiting f) a.answer k less _ (c.in_ok-to.ensures.of_the_call m ∙ call-of (program_of m a.code.sealed.now a.code.records.now) fs k x (latest fs x top)) _ _ _ _ c.if-to-ge-REGISTERS.false (omega arith) (ap (λ b. set xs (b + c.in_ok-to.field-0.0) (Some a.answer)) base) (ap (λ (f : Frame). f.function.0) (latest fs x top)) (add-one _ ∙ ap (λ (f : Frame). suc f.pc.0) (latest fs x top)) (ap length gs) (below fs x top _ gs)
+    let base = c.base-base.ensures.place ∙ ap (λ (z : List Frame). registers_per_frame * length z) gs in
+    λ m W. leave-goes (program_of m a.code.sealed.now a.code.records.now) m W xs fs (waiting f) a.answer k less _ (c.in_ok-to.ensures.of_the_call m ∙ call-of (program_of m a.code.sealed.now a.code.records.now) fs k x (latest fs x top)) _ _ _ _ c.if-to-ge-REGISTERS.false (omega arith) (ap (λ b. set xs (b + c.in_ok-to.field-0.0) (Some a.answer)) base) (ap (λ (f : Frame). f.function.0) (latest fs x top)) (c.next.ensures.behind ∙ ap (λ (f : Frame). suc f.pc.0) (latest fs x top)) (ap length gs) (below fs x top _ gs)
+
+pub returns-clause-callers_kept : goal.returns-clause-callers_kept
+returns-clause-callers_kept c = kept c.args.self.now.callers c.pop.new.self c.pop.result c.pop.ensures.held c.pop.ensures.beyond
 
 pub returns-clause-within : goal.returns-clause-within
 returns-clause-within c =
@@ -69,5 +72,5 @@ returns-clause-within c =
     let less = one-less fs x top in
     let sized = c.requires.registers in
     let gs = popped fs x top c.pop.result _ c.pop.ensures.held in
-    let base = c.base-base.ensures ∙ ap (λ (z : List Frame). registers_per_frame * length z) gs in
+    let base = c.base-base.ensures.place ∙ ap (λ (z : List Frame). registers_per_frame * length z) gs in
     λ u h e. subst (LiveIn u _) (sym (ap length gs)) (written-within xs _ k _ a.answer (ap (λ b. set xs (b + c.in_ok-to.field-0.0) (Some a.answer)) base) c.if-to-ge-REGISTERS.false (omega arith) u (λ j l. h j (omega arith)) e)

@@ -40,6 +40,6 @@ returns-in_default-clause-done g c =
     let e = c.stay.ensures in
     let n = memory_of c.with-bytes.result in
     λ P L m s k.
-    stay-does g.S.Store a.store.now l P L m s n c.with-bytes.ensures c.stay.new.store a.i c.stay.result _ _ e.space
+    stay-does g.S.Store a.store.now l P L m s n c.with-bytes.ensures.memory c.stay.new.store a.i c.stay.result _ _ e.space
     (e.stayed P (effects_of a.self.now.spent) s.tables (staying n a.i c.in_default.not-Call c.in_default.not-Ret c.in_default.not-Halt))
     (e.within a.self.now.spent.strings.used s.live-within s.globals-within s.store-within k)
