@@ -107,9 +107,7 @@ pub fn measure(rt: &HostRuntime) -> anyhow::Result<()> {
     let mut entries = [Chained::default(); 16384];
     let mut chains = [Chain::default(); 16384];
     println!(rt; "store\tpairs\toperations\tfound\ta second")?;
-    let Ok(capacity) = Capacity::new(TABLES, 16384) else {
-        return Ok(());
-    };
+    let capacity = Capacity::new(TABLES, 16384)?;
     let mut list = ListStore::new(&mut pairs, capacity);
     time(rt, "list", &mut list, 100, 4000000, bytes)?;
     time(rt, "list", &mut list, 1000, 400000, bytes)?;

@@ -22,7 +22,7 @@ use text::span::Bytes;
 mod number;
 mod walk;
 
-// A pair, the number of its bucket, and the place of the next pair of that bucket.
+// A pair, the number of its bucket, and the place of the next pair of that bucket: places in lent memory, where no link can be owned.
 #[derive(Clone, Copy, Default, Debug)]
 pub struct Chained {
     key: Key,
@@ -71,7 +71,7 @@ impl<'e, 'c> BucketStore<'e, 'c> {
         let room = if chains.is_empty() {
             0
         } else {
-            entries.len().min(capacity.pairs() as usize)
+            entries.len().min(usize::from(capacity.pairs()))
         };
         BucketStore {
             entries,
@@ -146,6 +146,7 @@ impl Store for BucketStore<'_, '_> {
 
     fn read(&self, key: Key, bytes: Bytes<'_, '_, '_>) -> Result<Option<Value>, NoTable> {
         self.tables.check(key.location)?;
+        // arms: of `map` with an index into the entries the check learns the result by cases only
         match self.place_of(key, bytes) {
             Some(i) => Ok(Some(self.entries[i].value)),
             None => Ok(None),

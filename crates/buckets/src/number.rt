@@ -14,7 +14,11 @@ fn byte_of(string: Span, i: u16, bytes: Bytes<'_, '_, '_>) -> u8
     ensures { result ≡ slice_index (bytes_of (memory_of bytes.entry) string) i }
 {
     if i < string.len {
-        byte_at(bytes, string.space, string.start as usize + i as usize)
+        byte_at(
+            bytes,
+            string.space,
+            usize::from(string.start) + usize::from(i),
+        )
     } else {
         0
     }
@@ -31,10 +35,13 @@ fn number_of(key: Value, bytes: Bytes<'_, '_, '_>) -> usize
             let first = byte_of(s, 0, bytes);
             let middle = byte_of(s, s.len / 2, bytes);
             let last = byte_of(s, s.len.saturating_sub(1), bytes);
-            s.len as usize + first as usize * 3 + middle as usize * 5 + last as usize * 7
+            usize::from(s.len)
+                + usize::from(first) * 3
+                + usize::from(middle) * 5
+                + usize::from(last) * 7
         }
-        Value::Ident(i) => i.0 as usize,
-        Value::Loc(l) => l.0 as usize,
+        Value::Ident(i) => usize::from(i.0),
+        Value::Loc(l) => usize::from(l.0),
     }
 }
 
@@ -43,5 +50,5 @@ pub fn bucket_of(key: Key, buckets: usize, bytes: Bytes<'_, '_, '_>) -> usize
     ensures value { result ≡ bucket_of buckets (place_of (memory_of bytes.entry) key) }
     ensures below { result < buckets }
 {
-    (key.location.0 as usize * 31 + number_of(key.value, bytes)) % buckets
+    (usize::from(key.location.0) * 31 + number_of(key.value, bytes)) % buckets
 }

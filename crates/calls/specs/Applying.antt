@@ -2,8 +2,8 @@
 use Rattle.std.specs.Prelude.{◌≡◌, ℕ, suc, ◌-◌, ◌<◌, ◌≤◌, List, ℤ, Ok, Err, Result}
 use Rattle.std.specs.Fmt.{signed_decimal}
 use Rattle.text.specs.declared.span.Span.{Span}
-use Rattle.text.specs.Memory.{Memory, bytes_of}
-use Rattle.text.specs.Agree.{Grown, made_end}
+use Rattle.text.specs.Memory.{Memory}
+use Rattle.text.specs.Agree.{Grown}
 use Rattle.store.specs.declared.value.Value.{Value}
 use Rattle.store.specs.Val.{Val, meaning, end_of}
 use Rattle.machine.specs.declared.builtin.Builtin.{Builtin}
@@ -38,16 +38,6 @@ memory_in l p = memory_with l p.strings.bytes.now
 pub record SameSpace (p q : Spent) : Type 0 where
   pub strings : SameSlice p.strings.bytes q.strings.bytes
   pub output : SameSlice p.output.bytes q.output.bytes
-
--- a string by its bytes
-abbrev pub spelled : Memory → Result Span Ending → Outcome (List ℕ)
-spelled m (Ok s) = Ok (bytes_of m s)
-spelled m (Err e) = Err e
-
--- the string ends where the value that holds it does
-abbrev pub Spans : Value → Result Span Ending → Type 0
-Spans v (Ok s) = made_end s ≡ end_of v
-Spans v (Err e) = Unit {0}
 
 abbrev pub both_answered : Memory → Result (Value × Value) Ending → Outcome (Val × Val)
 both_answered m (Ok p) = Ok (meaning m p.0, meaning m p.1)

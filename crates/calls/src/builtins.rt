@@ -5,10 +5,10 @@ ghost use Rattle.store.specs.Val.{meaning};
 ghost use Rattle.machine.specs.declared.builtin.Builtin.TheVariants.{PrintValue, ToS, Concat, Length};
 ghost use Rattle.machine.specs.Limits.{most_string_bytes};
 ghost use Rattle.machine.specs.Effects.{Effects};
-ghost use Rattle.machine.specs.Builtin.{integer_in, string_in, shown};
+ghost use Rattle.machine.specs.Builtin.{integer_in, shown};
 ghost use Rattle.effects.specs.Spending.{memory_with, effects_of, SameSlice};
 ghost use Rattle.operands.specs.Slots.{registers_of, answered, Within, EndsBy};
-ghost use Rattle.calls.specs.Applying.{spelled, Spans, Spells, There, Shows, Applied, SameSpace, beside, apply_at};
+ghost use Rattle.calls.specs.Applying.{Spells, There, Shows, Applied, SameSpace, beside, apply_at};
 
 use crate::passed::Passed;
 use effects::literals::Literals;
@@ -17,6 +17,7 @@ use effects::spent::Spent;
 use effects::strings::Strings;
 use machine::builtin::Builtin;
 use machine::ending::Ending;
+use operands::operand::Operand;
 use store::value::Value;
 use text::span::{Bytes, Span};
 
@@ -25,20 +26,7 @@ fn spell(v: Value, strings: &mut Strings<'_>) -> Result<Span, Ending>
     ensures made { (m : Memory) → most_string_bytes ≤ length strings.old.bytes.now → Spells (integer_in (meaning m v)) strings.old result strings.new }
     ensures lent { SameSlice strings.old.bytes strings.new.bytes }
 {
-    match v {
-        Value::Int(n) => strings.to_s(n),
-        _ => Err(Ending::Stuck),
-    }
-}
-
-fn string_in(v: Value) -> Result<Span, Ending>
-    ensures its_bytes { (m : Memory) → spelled m result ≡ string_in (meaning m v) }
-    ensures its_span { Spans v result }
-{
-    match v {
-        Value::Str(s) => Ok(s),
-        _ => Err(Ending::Stuck),
-    }
+    strings.to_s(i32::of_value(v)?)
 }
 
 // What is printed of a value.
@@ -94,8 +82,8 @@ fn concatenate(
     ensures lent { SameSpace spent.old spent.new }
 {
     let (v, w) = passed.both(registers)?;
-    let a = string_in(v)?;
-    let b = string_in(w)?;
+    let a = Span::of_value(v)?;
+    let b = Span::of_value(w)?;
     let s = spent.strings.concat(a, b, literals)?;
     Ok(Value::Str(s))
 }
@@ -106,7 +94,7 @@ fn length_of(registers: &[Option<Value>], passed: Passed) -> Result<Value, Endin
     ensures there { There passed.first.0 (length registers.now) result }
 {
     let v = passed.only(registers)?;
-    let s = string_in(v)?;
+    let s = Span::of_value(v)?;
     Ok(Value::Int(s.len as i32))
 }
 

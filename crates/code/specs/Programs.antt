@@ -26,7 +26,7 @@ unfoldable pub program_at : Memory → List Record → List Extent → Program
 program_at m xs es = map (code_at m xs) es
 
 abbrev pub program_of : Memory → Sealed → List Record → Program
-program_of m s xs = program_at m xs s.functions.items
+program_of m s xs = program_at m xs (take s.functions s.extents)
 
 -- the records of a function
 abbrev pub records_at : List Record → Extent → List Record
@@ -34,11 +34,11 @@ records_at xs e = take e.len (drop e.start xs)
 
 -- the function f, if there is one
 abbrev pub extent_of : Sealed → ℕ → Extent → Extent
-extent_of s f d = slice_index_or s.functions.items f d
+extent_of s f d = slice_index_or (take s.functions s.extents) f d
 
 -- the record x stands at the place pc of the function f
 pub record StandsAt (s : Sealed) (xs : List Record) (f pc : ℕ) (x : Record) : Type 0 where
-  pub function : f < length s.functions.items
+  pub function : f < length (take s.functions s.extents)
   pub place : (d : Extent) → pc < length (records_at xs (extent_of s f d))
   pub is : (d : Extent) → slice_index_or (records_at xs (extent_of s f d)) pc x ≡ x
 

@@ -1,5 +1,6 @@
 // The code table: records, grouped in functions.
-ghost use Rattle.std.specs.Prelude.{◌≡◌, ◌^◌, ◌<◌, length};
+ghost use Rattle.std.specs.Prelude.{◌^◌, ◌<◌, ◌≤◌, length};
+ghost use Rattle.code.specs.declared.table.TheConstants.{FUNCTIONS};
 
 pub mod laying;
 pub mod places;
@@ -35,10 +36,13 @@ pub struct Extent {
     pub len: u32,
 }
 
-// Code that can be run: where each function stands.
-#[derive(Drop)]
+// Code that can be run: how many functions there are, and where each stands.
+// An array and a count: sealed code is plain numbers and Copy, which no ArrayVec is.
+#[derive(Clone, Copy)]
 pub struct Sealed {
-    functions: ArrayVec<Extent, FUNCTIONS>,
+    functions: usize,
+    extents: [Extent; FUNCTIONS],
+    ghost fits: { functions ≤ FUNCTIONS },
 }
 
 // Code that is being laid, which nothing runs: the functions that are finished, and the one under way.
@@ -46,7 +50,7 @@ pub struct Sealed {
 pub struct Open {
     finished: ArrayVec<Extent, FUNCTIONS>,
     current: Extent,
-    ghost few: { length finished.items < 82 },
+    ghost few: { length finished.items < FUNCTIONS },
     ghost short: { current.len < 2 ^ 31 },
 }
 

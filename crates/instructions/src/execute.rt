@@ -21,6 +21,7 @@ use store::key::Key;
 use store::value::{Identifier, Value};
 use text::span::Bytes;
 
+// That the place is below 2 ^ 32 is known of an instruction that was fetched, and not of every place: a jump may lead further.
 fn if_zero(registers: &[Option<Value>], a: Register, pc: Place, n: Offset) -> Result<Place, Ending>
     requires { pc.0 < 2 ^ 32 }
     ensures { (m : Memory) → placed result ≡ if_zero_from pc.0 (registers_of m registers.now) a.0 n.0 }
@@ -31,7 +32,7 @@ fn if_zero(registers: &[Option<Value>], a: Register, pc: Place, n: Offset) -> Re
     }
 }
 
-// The index of a register that the frame has.
+// The index of a register that the frame has. An index, since after a `get_mut` no proof knows the other registers.
 fn target(registers: &[Option<Value>], a: Register) -> Result<usize, Ending>
     ensures { MatchResult result (λ i. (i ≡ a.0) × (i < length registers.now)) (λ e. (e ≡ Stuck) × (length registers.now ≤ a.0)) }
 {
@@ -109,6 +110,7 @@ fn write_key<S: Store>(
 }
 
 // The instructions that act other than by an answer; those that leave the frame do nothing here.
+// What is lent stands in parameters of its own: each part is lent on alone, the registers from the middle of a longer slice.
 fn act<S: Store>(
     i: Instruction,
     pc: Place,

@@ -2,6 +2,7 @@
 ghost use Rattle.std.specs.Prelude.{◌≡◌, ◌-◌, length};
 ghost use Rattle.std.specs.Iterator.{at_most};
 ghost use Rattle.lexer.specs.Lexing.{next, told, behind};
+ghost use Rattle.lexer.specs.Law.{Inside};
 
 use crate::next_token;
 use crate::token::{Lexed, Stray};
@@ -26,7 +27,7 @@ impl<'a> Tokens<'a> {
 impl<'a> Iterator for Tokens<'a> {
     type Item = Result<Lexed<'a>, Stray>;
 
-    ghost next_gives = { λ s r t. (t.text.now ≡ s.text.now) × (told r ≡ next s.text.now s.at) × (t.at ≡ behind (length s.text.now) (told r)) };
+    ghost next_gives = { λ s r t. (t.text.now ≡ s.text.now) × (told r ≡ next s.text.now s.at) × (t.at ≡ behind (length s.text.now) (told r)) × Inside (length s.text.now) s.at (told r) };
 
     ghost remaining = { λ s. at_most (length s.text.now - s.at) };
 

@@ -92,8 +92,9 @@ impl fmt::Display for Sample<'_> {
         if let Err(stray) = check_text(text) {
             return write!(f, "  {}", Refused::from(stray));
         }
-        for lexed in Tokens::of(text).map_while(Result::ok) {
-            let bytes = text.get(lexed.from..lexed.to).unwrap_or(b"");
+        for lexed in Tokens::of(text) {
+            let Ok(lexed) = lexed else { break };
+            let bytes = &text[lexed.from..lexed.to];
             write!(
                 f,
                 "  {}:{}:{}",

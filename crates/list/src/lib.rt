@@ -57,7 +57,7 @@ impl<'p> ListStore<'p> {
         ensures tables { result.tables.most ≡ capacity.tables }
         ensures room { room result.pairs ≡ min capacity.pairs (length pairs.old) }
     {
-        let room = pairs.len().min(capacity.pairs() as usize);
+        let room = pairs.len().min(usize::from(capacity.pairs()));
         ListStore {
             pairs: Stack::new(&mut pairs[..room]),
             tables: TableCount::new(capacity),
@@ -96,6 +96,7 @@ impl Store for ListStore<'_> {
 
     fn read(&self, key: Key, bytes: Bytes<'_, '_, '_>) -> Result<Option<Value>, NoTable> {
         self.tables.check(key.location)?;
+        // arms: of `map` with an index into the pairs the check learns the result by cases only
         match self.place_of(key, bytes) {
             Some(i) => Ok(Some(self.pairs.items()[i].value)),
             None => Ok(None),
@@ -110,6 +111,7 @@ impl Store for ListStore<'_> {
                 self.pairs.set(i, Pair { value, ..pair });
                 Ok(())
             }
+            // arms, as in `read`: of `map_err` the check learns no more
             None => match self.pairs.push(Pair { key, value }) {
                 Ok(()) => Ok(()),
                 Err(_) => Err(Refusal::Full),

@@ -6,7 +6,7 @@ ghost use Rattle.machine.specs.Named.{Asked};
 
 use store::{NoTable, Refusal};
 
-// Each by its number, which is what a program's reader is told.
+// Each with its number, as the machine's table has it.
 #[derive(Clone, Copy, Debug, PartialEq, Eq)]
 pub enum Ending {
     Finished = 0,
@@ -28,6 +28,7 @@ pub enum Ending {
 }
 
 impl Ending {
+    // A method, so that the code which prints it says what the number is.
     pub fn number(self) -> u8
         ensures its_number { result ≡ number_of self }
     {
@@ -62,6 +63,7 @@ impl Ending {
     {
         let text = self.message();
         let n = text.len();
+        // A test and a range: after a `get_mut` no proof knows the buffer's bytes.
         if out.len() < n {
             return None;
         }

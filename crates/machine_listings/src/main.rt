@@ -24,7 +24,7 @@ const NO_FRAME: Frame = Frame {
     pc: Place(0),
 };
 
-// Both functions of a listing.
+// Both functions of a listing. `bench` lays its own the same way: five calls, which a function for both would only rename.
 fn lay(listing: Listing, records: &mut [Record]) -> Result<Sealed, Full> {
     let mut open = Open::new();
     open.lay_all(records, listing.main, 0)?;

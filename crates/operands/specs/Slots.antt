@@ -1,14 +1,15 @@
 -- What the registers of a frame mean over the bytes that are lent with them. Assumes nothing.
-use Rattle.std.specs.Prelude.{ℕ, ◌≤◌, List, map, Some, None, Ok, Err, Option, Result, slice_index_or}
+use Rattle.std.specs.Prelude.{◌≡◌, ℕ, ◌≤◌, refl, List, map, Some, None, Ok, Err, Option, Result, slice_index_or}
 use Rattle.text.specs.Memory.{Memory}
 use Rattle.store.specs.declared.value.Value.{Value}
 use Rattle.store.specs.Val.{Val, meaning, end_of}
 use Rattle.store.specs.Answers.{meant}
+use Rattle.store.specs.Tables.{Tables, made}
 use Rattle.machine.specs.declared.ending.Ending.{Ending}
 use Rattle.machine.specs.declared.ending.Ending.TheVariants.{Stuck}
-use Rattle.machine.specs.Outcome.{Outcome, ◌>>=◌}
+use Rattle.machine.specs.Outcome.{Outcome, ◌>>=◌, unless}
 use Rattle.machine.specs.State.{Registers}
-use Rattle.machine.specs.Operands.{value_at}
+use Rattle.machine.specs.Operands.{value_at, table_in}
 
 unfoldable pub registers_of : Memory → List (Option Value) → Registers
 registers_of m xs = map (meant m) xs
@@ -45,3 +46,10 @@ location_in (Val.int n) = Err Stuck
 location_in (Val.string s) = Err Stuck
 location_in (Val.identifier g) = Err Stuck
 location_in (Val.location l) = Ok l
+
+-- the table at a location is there if it was made
+pub table-at_location : (T : Tables) (v : Val) → table_in T v ≡ (location_in v >>= (λ l. unless Stuck (made T l) (Ok l)))
+table-at_location T (Val.int n) = refl
+table-at_location T (Val.string s) = refl
+table-at_location T (Val.identifier g) = refl
+table-at_location T (Val.location l) = refl

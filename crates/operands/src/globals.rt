@@ -1,7 +1,8 @@
 // The globals of a run, the oldest first.
-ghost use Rattle.std.specs.Prelude.{◌≡◌, ℕ, ◌≤◌, [], OnErr, nat_eq};
+ghost use Rattle.std.specs.Prelude.{◌≡◌, ℕ, ◌≤◌, [], pos, OnErr, nat_eq};
 ghost use Rattle.std.specs.List.{position};
 ghost use Rattle.text.specs.Memory.{Memory};
+ghost use Rattle.store.specs.declared.value.Value.TheVariants.{Int};
 ghost use Rattle.store.specs.Val.{Val, end_of};
 ghost use Rattle.store.specs.Answers.{meant};
 ghost use Rattle.store.specs.Tables.{look};
@@ -22,8 +23,10 @@ struct Global {
     value: Value,
 }
 
-// What stands in the places that no global has taken.
+// What stands in the places that no global has taken. By hand, since no value is a default.
 impl Default for Global {
+    ghost is_default = { λ e. (e.name.0 ≡ 0) × (e.value ≡ Int (pos 0)) };
+
     fn default() -> Global {
         Global {
             name: Identifier(0),
@@ -61,6 +64,7 @@ impl Globals {
         }
     }
 
+    // One search serves reading and writing.
     fn place(&self, name: Identifier) -> Option<usize>
         ensures first { result ≡ position (λ e. nat_eq e.name.0 name.0) self.now.entries.items }
     {
@@ -85,7 +89,7 @@ impl Globals {
         let global = Global { name, value };
         match self.place(name) {
             Some(i) => self.entries[i] = global,
-            None if self.entries.is_full() => return Err(NoRoom),
+            None if self.entries.len() == GLOBALS => return Err(NoRoom),
             None => self.entries.push(global),
         }
         Ok(())

@@ -1,4 +1,4 @@
-// What instructions read from the registers of the running frame.
+// What instructions read from the registers of the running frame. They are a slice in each function: the middle of those of all frames.
 ghost use Rattle.std.specs.Prelude.{◌≡◌, ℕ, ◌≤◌, None, slice_index_or};
 ghost use Rattle.text.specs.Memory.{Memory, memory_of};
 ghost use Rattle.store.specs.Val.{meaning, end_of};
@@ -14,9 +14,9 @@ use text::span::Bytes;
 
 // What a register holds; past the last there is none.
 fn slot(registers: &[Option<Value>], a: Register) -> Option<Value>
-    ensures { result ≡ slice_index_or registers.now a.0 None }
+    ensures held { result ≡ slice_index_or registers.now a.0 None }
 {
-    registers.get(a.0 as usize).copied().flatten()
+    registers.get(usize::from(a.0)).copied().flatten()
 }
 
 pub fn value(registers: &[Option<Value>], a: Register) -> Result<Value, Ending>
@@ -28,7 +28,7 @@ pub fn value(registers: &[Option<Value>], a: Register) -> Result<Value, Ending>
 
 // What a register holds, if its kind is the one that is wanted.
 pub fn operand<T: Operand>(registers: &[Option<Value>], a: Register) -> Result<T, Ending>
-    ensures held { (m : Memory) → taken T.Operand.means result ≡ wanted_at T.Operand.wanted (registers_of m registers.now) a.0 }
+    ensures held { (m : Memory) → taken (T.Operand.means m) result ≡ wanted_at T.Operand.wanted (registers_of m registers.now) a.0 }
 {
     T::of_value(value(registers, a)?)
 }
@@ -40,6 +40,7 @@ pub(crate) fn truth(b: bool) -> Value
     Value::Int(i32::from(b))
 }
 
+// These three read two registers each, by two lines: a function for the pair would be longer than what it saves.
 pub(crate) fn arith(
     registers: &[Option<Value>],
     op: Op,
@@ -47,7 +48,7 @@ pub(crate) fn arith(
     c: Register,
 ) -> Result<Value, Ending>
     ensures computed { (m : Memory) → answered m result ≡ arith_at op (registers_of m registers.now) b.0 c.0 }
-    ensures within { (u : ℕ) → Within u registers.now → EndsBy u result }
+    ensures within { (u : ℕ) → EndsBy u result }
 {
     let x = operand(registers, b)?;
     let y = operand(registers, c)?;
@@ -61,7 +62,7 @@ pub(crate) fn ordered(
     c: Register,
 ) -> Result<Value, Ending>
     ensures computed { (m : Memory) → answered m result ≡ ordered_at order (registers_of m registers.now) b.0 c.0 }
-    ensures within { (u : ℕ) → Within u registers.now → EndsBy u result }
+    ensures within { (u : ℕ) → EndsBy u result }
 {
     let x = operand(registers, b)?;
     let y = operand(registers, c)?;
@@ -75,7 +76,7 @@ pub(crate) fn equal(
     bytes: Bytes<'_, '_, '_>,
 ) -> Result<Value, Ending>
     ensures computed { answered (memory_of bytes.entry) result ≡ same_at (registers_of (memory_of bytes.entry) registers.now) b.0 c.0 }
-    ensures within { (u : ℕ) → Within u registers.now → EndsBy u result }
+    ensures within { (u : ℕ) → EndsBy u result }
 {
     let x = value(registers, b)?;
     let y = value(registers, c)?;
@@ -93,7 +94,7 @@ fn is_of(kind: Kind, v: Value) -> bool
 
 pub(crate) fn kind(registers: &[Option<Value>], kind: Kind, b: Register) -> Result<Value, Ending>
     ensures computed { (m : Memory) → answered m result ≡ kind_at kind (registers_of m registers.now) b.0 }
-    ensures within { (u : ℕ) → Within u registers.now → EndsBy u result }
+    ensures within { (u : ℕ) → EndsBy u result }
 {
     Ok(truth(is_of(kind, value(registers, b)?)))
 }

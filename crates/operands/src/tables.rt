@@ -13,7 +13,7 @@ use store::key::Key;
 use store::value::Value;
 use text::span::Bytes;
 
-// The value under a key that is there.
+// The value under a key that is there. The key is read here and in `has_key`, by the same lines: a function for it would be longer.
 pub(crate) fn read_key<S: Store>(
     registers: &[Option<Value>],
     b: Register,
@@ -40,7 +40,7 @@ pub(crate) fn has_key<S: Store>(
     bytes: Bytes<'_, '_, '_>,
 ) -> Result<Value, Ending>
     ensures answered { (T : Tables) → S.Store.holds store.now (memory_of bytes.entry) T → answered (memory_of bytes.entry) result ≡ has_key_at T (registers_of (memory_of bytes.entry) registers.now) b.0 c.0 }
-    ensures within { (u : ℕ) → S.Store.within store.now u → EndsBy u result }
+    ensures within { (u : ℕ) → EndsBy u result }
 {
     let key = Key {
         location: operand(registers, b)?,

@@ -48,7 +48,7 @@ impl TableCount {
 
     // Refuses the location of a table that was not made.
     pub fn check(&self, location: Location) -> Result<(), NoTable>
-        ensures { MatchResult result (λ _. location.0 < self.now.made) (λ _. self.now.made ≤ location.0) }
+        ensures made { MatchResult result (λ _. location.0 < self.now.made) (λ _. self.now.made ≤ location.0) }
     {
         if location.0 < self.made {
             Ok(())

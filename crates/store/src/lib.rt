@@ -1,17 +1,20 @@
 // Values, and stores of tables that map values to values.
 #![tactic(auto)]
 
-ghost use Rattle.std.specs.Prelude.{◌≡◌, ℕ, ◌≤◌, [], length, Ok, Err};
+ghost use Rattle.std.specs.Prelude.{◌≡◌, ℕ, ◌≤◌, [], length, Some, Ok, Err};
 ghost use Rattle.text.specs.Memory.{Memory, memory_of};
 ghost use Rattle.text.specs.Agree.{Grown};
 ghost use Rattle.store.specs.declared.Refusal.TheVariants as refusal;
 ghost use Rattle.store.specs.Limits.{most_tables, most_pairs};
+ghost use Rattle.store.specs.Words.{refused_in};
 ghost use Rattle.store.specs.Val.{meaning, end_of};
 ghost use Rattle.store.specs.Tables.{Tables, pairs};
 ghost use Rattle.store.specs.Answers.{Makes, Reads, ReadsWithin, Has, Writes};
 
 use crate::key::Key;
 use crate::value::{Location, Value};
+use std::error::Error;
+use std::fmt;
 use text::span::Bytes;
 
 pub mod capacity;
@@ -31,11 +34,24 @@ pub enum Refusal {
     Full,
 }
 
+impl fmt::Display for Refusal {
+    ghost output = { λ r. Some (refused_in r) };
+
+    fn fmt<W: fmt::Write>(&self, f: &mut fmt::Formatter<W>) -> fmt::Result {
+        match self {
+            Refusal::NoTable => write!(f, "no such table"),
+            Refusal::Full => write!(f, "full"),
+        }
+    }
+}
+
+impl Error for Refusal {}
+
 impl From<NoTable> for Refusal {
     ghost from_gives = { λ _ r. r ≡ refusal.NoTable };
 
-    fn from(_: NoTable) -> Refusal {
-        Refusal::NoTable
+    fn from(_: NoTable) -> Self {
+        Self::NoTable
     }
 }
 

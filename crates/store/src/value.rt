@@ -22,7 +22,7 @@ pub enum Value {
     Loc(Location),
 }
 
-// For memory that is lent: what it holds before does not matter.
+// By hand: a variant with a field can be no `#[default]`.
 impl Default for Value {
     ghost is_default = { λ v. v ≡ Int (pos 0) };
 

@@ -34,7 +34,7 @@ impl Random {
 
     fn value(&mut self) -> Value {
         match self.below(4) {
-            0 => Value::Int(self.below(4) as i32 - 2),
+            0 => Value::Int(i32::from(self.below(4)) - 2),
             1 => Value::Str(self.string()),
             2 => Value::Ident(Identifier(self.below(3))),
             _ => Value::Loc(Location(self.below(3))),

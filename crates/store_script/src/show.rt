@@ -15,8 +15,13 @@ pub struct Shown<'f, 't, 'm, T> {
 impl fmt::Display for Shown<'_, '_, '_, Span> {
     fn fmt<W: fmt::Write>(&self, f: &mut fmt::Formatter<W>) -> fmt::Result {
         write!(f, "\"")?;
-        for i in 0..self.item.len as usize {
-            let byte = byte_at(self.bytes, self.item.space, self.item.start as usize + i);
+        // a byte past the memory's end is 0, so a span is no slice
+        for i in 0..usize::from(self.item.len) {
+            let byte = byte_at(
+                self.bytes,
+                self.item.space,
+                usize::from(self.item.start) + i,
+            );
             write!(f, "{}", byte as char)?;
         }
         write!(f, "\"")
@@ -83,8 +88,7 @@ impl fmt::Display for Shown<'_, '_, '_, Result<Reply, Refusal>> {
         let bytes = self.bytes;
         match self.item {
             Ok(item) => write!(f, "{}", Shown { item, bytes }),
-            Err(Refusal::NoTable) => write!(f, "no such table"),
-            Err(Refusal::Full) => write!(f, "full"),
+            Err(refusal) => write!(f, "{refusal}"),
         }
     }
 }

@@ -1,4 +1,5 @@
 // Recursive descent over the tokens of a text: one function for each level and each form of several parts.
+// (Nodes and names are lent apart: a class has one table of nodes, and names of its own for each body. Each function asks that the table has no more nodes than bytes were read, since no value holds both the table and the place.)
 ghost use Rattle.std.specs.Prelude.{◌≡◌, ℕ, ◌+◌, ◌-◌, ◌%◌, ◌^◌, ◌<◌, ◌≤◌, length, IfOk, Some, MatchResult};
 ghost use Rattle.text.specs.declared.span.Space.TheVariants.{Texts};
 ghost use Rattle.lexer.specs.declared.token.Keyword.TheVariants as word;
@@ -155,9 +156,9 @@ impl Text<'_> {
         };
         match sight.sort {
             Sort::Name => Ok(self.local(sight, nodes, names)),
-            Sort::Integer => Ok(self.integer(sight, nodes, names)),
-            Sort::Field => Ok(self.field(sight, nodes, names)),
-            Sort::Str => Ok(self.string(sight, nodes, names)),
+            Sort::Integer => Ok(self.integer(sight, nodes)),
+            Sort::Field => Ok(self.field(sight, nodes)),
+            Sort::Str => Ok(self.string(sight, nodes)),
             Sort::Word(keyword) => self.keyed(sight, keyword, nodes, names),
             Sort::Sign(_) => Err(Stuck(sight.from)),
         }

@@ -6,6 +6,7 @@ use nodes::node::{Arguments, Method, Parameters};
 use nodes::refusal::Refusal;
 
 // What the limits ask of an expression: its depth, as far as a byte counts, and whether its literals and its lists of arguments are small enough.
+// (No Option of the depth: both are joined part by part, each in its own way.)
 #[derive(Clone, Copy)]
 pub struct Size {
     pub depth: u8,

@@ -86,15 +86,23 @@ impl Text<'_> {
         }
     }
 
-    // Where the token that has to come ends.
+    // The token of this sort that has to come.
+    pub fn next(self, at: u16, wanted: Sort) -> Result<Sight, Stuck>
+        ensures found { MatchResult result (λ s. left self.entry.bytes.now at ≡ shown self.entry.bytes.now wanted s.from s.to) (λ s. (s.0 ≡ first (length self.entry.bytes.now) (places self.entry.bytes.now at)) × (head_sort (terms self.entry.bytes.now at) ≢ Some wanted)) }
+        ensures inside { IfOk result (λ s. (at ≤ s.from) × (s.to ≤ length self.entry.bytes.now)) }
+    {
+        match self.look(at) {
+            Some(sight) if sight.sort == wanted => Ok(sight),
+            _ => Err(Stuck(self.place(at))),
+        }
+    }
+
+    // Where it ends.
     pub fn expect(self, at: u16, wanted: Sort) -> Result<u16, Stuck>
         ensures found { MatchResult result (λ to. (from : ℕ) × (left self.entry.bytes.now at ≡ shown self.entry.bytes.now wanted from to)) (λ s. (s.0 ≡ first (length self.entry.bytes.now) (places self.entry.bytes.now at)) × (head_sort (terms self.entry.bytes.now at) ≢ Some wanted)) }
         ensures inside { IfOk result (λ to. (at < to) × (to ≤ length self.entry.bytes.now)) }
     {
-        match self.after(at, wanted) {
-            Some(to) => Ok(to),
-            None => Err(Stuck(self.place(at))),
-        }
+        Ok(self.next(at, wanted)?.to)
     }
 
     // The name that has to come.
@@ -102,13 +110,7 @@ impl Text<'_> {
         ensures found { MatchResult result (λ s. left self.entry.bytes.now at ≡ shown self.entry.bytes.now Name s.from s.to) (λ s. (s.0 ≡ first (length self.entry.bytes.now) (places self.entry.bytes.now at)) × (head_sort (terms self.entry.bytes.now at) ≢ Some Name)) }
         ensures inside { IfOk result (λ s. (at ≤ s.from) × (s.to ≤ length self.entry.bytes.now)) }
     {
-        match self.look(at) {
-            Some(sight) => match sight.sort {
-                Sort::Name => Ok(sight),
-                _ => Err(Stuck(sight.from)),
-            },
-            None => Err(Stuck(self.bytes.len() as u16)),
-        }
+        self.next(at, Sort::Name)
     }
 
     // The text's end, which has to come.

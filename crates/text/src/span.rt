@@ -26,21 +26,16 @@ pub struct Bytes<'f, 't, 'm> {
     pub made: &'m [u8],
 }
 
-fn byte_or_zero(bytes: &[u8], i: usize) -> u8
-    ensures { result ≡ slice_index bytes.now i }
-{
-    bytes.get(i).copied().unwrap_or(0)
-}
-
 // A byte of a space; past the end of what is lent it is 0.
 pub fn byte_at(bytes: Bytes<'_, '_, '_>, space: Space, i: usize) -> u8
     ensures { result ≡ byte_of (memory_of bytes.entry) space i }
 {
-    match space {
-        Space::Fixed => byte_or_zero(bytes.fixed, i),
-        Space::Texts => byte_or_zero(bytes.texts, i),
-        Space::Made => byte_or_zero(bytes.made, i),
-    }
+    let memory = match space {
+        Space::Fixed => bytes.fixed,
+        Space::Texts => bytes.texts,
+        Space::Made => bytes.made,
+    };
+    memory.get(i).copied().unwrap_or(0)
 }
 
 // Whether two spans mean the same bytes.
@@ -52,8 +47,8 @@ pub fn same_span(bytes: Bytes<'_, '_, '_>, a: Span, b: Span) -> bool
     }
     // the same place: no byte need be read
     a == b
-        || (0..a.len as usize).all(|i| {
-            byte_at(bytes, a.space, a.start as usize + i)
-                == byte_at(bytes, b.space, b.start as usize + i)
+        || (0..usize::from(a.len)).all(|i| {
+            byte_at(bytes, a.space, usize::from(a.start) + i)
+                == byte_at(bytes, b.space, usize::from(b.start) + i)
         })
 }

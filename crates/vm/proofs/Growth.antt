@@ -1,5 +1,5 @@
 -- Globals and code mean the same once more strings are made.
-use Rattle.std.proofs.Common.{◌≡◌, ℕ, suc, ◌<◌, ◌≤◌, List, All, [], ◌∷◌, map, length, get_or, refl, ap, arith}
+use Rattle.std.proofs.Common.{◌≡◌, ℕ, suc, ◌<◌, ◌≤◌, List, All, [], ◌∷◌, map, length, get_or, take, refl, ap, arith}
 use Rattle.text.specs.Memory.{Memory}
 use Rattle.text.specs.Agree.{Grown}
 use Rattle.store.specs.Val.{Val, end_of}
@@ -65,7 +65,7 @@ module _ (u : ℕ) (m n : Memory) (g : Grown u m n) where
 
   pub program-grown : (s : Sealed) (xs : List Record) → CodeWithin u s xs → program_of m s xs ≡ program_of n s xs
   unfolding program_at
-  program-grown s xs h = functions-grown xs s.functions.items h
+  program-grown s xs h = functions-grown xs (take s.functions s.extents) h
 
 module _ (u v : ℕ) (l : u ≤ v) where
   pub globals-wider : (G : Globals) → GlobalsWithin u G → GlobalsWithin v G

@@ -1,5 +1,5 @@
 -- When lent memory stands for a state of the machine, and what a step leaves. Assumes nothing.
-use Rattle.std.specs.Prelude.{◌≡◌, ℕ, ◌<◌, ◌≤◌, List, [], length, Ok, Err, Result, slice_index_or}
+use Rattle.std.specs.Prelude.{◌≡◌, ℕ, ◌<◌, ◌≤◌, List, [], length, take, Ok, Err, Result, slice_index_or}
 use Rattle.stack.specs.Held.{held}
 use Rattle.text.specs.Memory.{Memory}
 use Rattle.store.specs.declared.Store.{Ghosts}
@@ -75,7 +75,7 @@ RecordsWithin u xs = (i : ℕ) (d : Record) → i < length xs → constant_end (
 -- in any function of the code; what stands elsewhere in the table does not matter
 abbrev pub CodeWithin : ℕ → Sealed → List Record → Type 0
 CodeWithin u s xs =
-    (f : ℕ) (d : Extent) → f < length s.functions.items → RecordsWithin u (records_at xs (extent_of s f d))
+    (f : ℕ) (d : Extent) → f < length (take s.functions s.extents) → RecordsWithin u (records_at xs (extent_of s f d))
 
 -- lent memory and a store stand for the state m of a run of the program P;
 -- whatever refers to a string refers to one that was made

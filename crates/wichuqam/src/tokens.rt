@@ -15,8 +15,9 @@ fn print_token(rt: &HostRuntime, lexed: Lexed<'_>, bytes: &[u8]) -> anyhow::Resu
 }
 
 fn print_all(rt: &HostRuntime, text: &[u8]) -> anyhow::Result<()> {
-    for lexed in Tokens::of(text).map_while(Result::ok) {
-        print_token(rt, lexed, text.get(lexed.from..lexed.to).unwrap_or(b""))?;
+    for lexed in Tokens::of(text) {
+        let Ok(lexed) = lexed else { break };
+        print_token(rt, lexed, &text[lexed.from..lexed.to])?;
     }
     Ok(())
 }

@@ -1,5 +1,5 @@
 // Laying code, one function behind another.
-ghost use Rattle.std.specs.Prelude.{◌≡◌, ℕ, suc, ◌+◌, ◌<◌, ◌≢◌, false, List, [], ◌∷◌, ◌++◌, map, length, take, pos, is_ok, MatchResult, OnOk, OnErr, slice_index_or, slice_set};
+ghost use Rattle.std.specs.Prelude.{◌≡◌, ℕ, suc, ◌+◌, ◌<◌, ◌≤◌, ◌≢◌, ◌⊎◌, false, List, [], ◌∷◌, ◌++◌, map, length, take, pos, is_ok, MatchResult, OnOk, OnErr, slice_index_or, slice_set};
 ghost use Rattle.text.specs.Memory.{Memory};
 ghost use Rattle.machine.specs.Instr.{Instr, Program, instr};
 ghost use Rattle.code.specs.Programs.{meant, program_of};
@@ -19,6 +19,7 @@ fn jump_of(test: Option<Register>, n: Offset) -> Instruction
     }
 }
 
+// The table is no part of `Open`: the caller lends it anew with each call. A record is written by its index, since after a `get_mut` no proof knows the others.
 impl Open {
     // Nothing laid: function 0 begins at the first record.
     pub fn new() -> Open
@@ -47,7 +48,7 @@ impl Open {
     {
         let Extent { start, len } = self.current;
         let end = self.current.end();
-        if end >= records.len() as u64 || len >= 0x7fff_ffff {
+        if end >= records.len() as u64 || len >= i32::MAX as u32 {
             return Err(Full(()));
         }
         records[end as usize] = item;
@@ -66,7 +67,9 @@ impl Open {
         origin: u16,
     ) -> Result<(), Full>
         ensures laid { (m : Memory) (P : Program) (c : List Instr) → Lays m records.old self.old P c → MatchResult result (λ _. Lays m records.new self.new P (c ++ map (instr m) code.now)) (λ _. (k : ℕ) × (k < length code.now) × Lays m records.new self.new P (c ++ map (instr m) (take k code.now))) }
-        ensures of_the_origin { OnOk result ((i : ℕ) (d : Record) → i < length code.now → (slice_index_or records.new (end_of self.old.current + i) d).origin ≡ origin) }
+        ensures reached { OnOk result (end_of self.new.current ≡ end_of self.old.current + length code.now) }
+        ensures of_the_origin { (i : ℕ) (d : Record) → end_of self.old.current ≤ i → i < end_of self.new.current → (slice_index_or records.new i d).origin ≡ origin }
+        ensures elsewhere { (i : ℕ) (d : Record) → (i < end_of self.old.current) ⊎ (end_of self.new.current ≤ i) → slice_index_or records.new i d ≡ slice_index_or records.old i d }
         ensures refused { OnErr result (has_room self.new (length records.new) ≡ false) }
     {
         for instruction in code {
@@ -106,15 +109,14 @@ impl Open {
         ensures begun { (m : Memory) (xs : List Record) (P : Program) (c : List Instr) → Lays m xs self.old P c → MatchResult result (λ _. Lays m xs self.new (P ++ c ∷ []) []) (λ _. Lays m xs self.new P c) }
         ensures kept_where_refused { OnErr result (self.new ≡ self.old) }
     {
-        let end = self.current.end();
-        if self.finished.len() + 1 >= FUNCTIONS || end > 0xffff_ffff {
+        let Ok(start) = u32::try_from(self.current.end()) else {
+            return Err(Full(()));
+        };
+        if self.finished.len() + 1 >= FUNCTIONS {
             return Err(Full(()));
         }
         self.finished.push(self.current);
-        self.current = Extent {
-            start: end as u32,
-            len: 0,
-        };
+        self.current = Extent { start, len: 0 };
         Ok(())
     }
 
@@ -123,11 +125,14 @@ impl Open {
         ensures all_that_was_laid { (m : Memory) (xs : List Record) (P : Program) (c : List Instr) → Lays m xs self P c → program_of m result xs ≡ P ++ c ∷ [] }
     {
         let Open {
-            finished: mut functions,
+            mut finished,
             current,
         } = self;
-        functions.push(current);
-        Sealed { functions }
+        finished.push(current);
+        let functions = finished.len();
+        let mut extents = [current; FUNCTIONS];
+        extents[..functions].copy_from_slice(&finished);
+        Sealed { functions, extents }
     }
 }
 

@@ -29,7 +29,7 @@ impl Place {
 impl Extent {
     // Behind the last record.
     pub(crate) fn end(self) -> u64
-        ensures { result ≡ end_of self }
+        ensures behind { result ≡ end_of self }
     {
         u64::from(self.start) + u64::from(self.len)
     }

@@ -14,7 +14,8 @@ impl Sealed {
         ensures in_the_table { IfSome result (StandsAt self.now records.now function.0 pc.0) }
         ensures placed { OnSome result (pc.0 < 2 ^ 32) }
     {
-        let extent = self.functions.get(usize::from(function.0))?;
+        let functions = &self.extents[..self.functions];
+        let extent = functions.get(usize::from(function.0))?;
         let record = records.get(extent.index(pc)?)?;
         Some(*record)
     }

@@ -9,7 +9,7 @@ pub returns-in_err-check-clause-holds : goal.returns-in_err-check-clause-holds
 returns-in_err-check-clause-holds c =
     let s = c.args.self.now in
     let p = err_from_is_err_and c.from_residual.result c.from_residual.ensures.1 in
-    rw p.1 (λ T h. holds-unmade s.entries.now s.len (fit s) (length s.chains.now) s.tables.made (memory_of c.args.bytes) T h c.args.key.location.0 c.in_err-check.ensures)
+    rw p.1 (λ T h. holds-unmade s.entries.now s.len (fit s) (length s.chains.now) s.tables.made (memory_of c.args.bytes) T h c.args.key.location.0 c.in_err-check.ensures.made)
 
 pub returns-in-Some : goal.returns-in-Some
 returns-in-Some c =
@@ -21,7 +21,7 @@ returns-in-Some c =
     let at = c.in-Some.ensures in
     record {
       holds = λ T h. (
-        holds-made es s.len (fit s) many s.tables.made m T h c.args.key.location.0 c.in_ok-check.ensures,
+        holds-made es s.len (fit s) many s.tables.made m T h c.args.key.location.0 c.in_ok-check.ensures.made,
         sym (holds-found es s.len (fit s) many s.tables.made m T h k c.in-Some.i (at.first h.placed) at.within),
       );
       within = λ u w. inside-value es s.len (fit s) u c.in-Some.i at.within w;
@@ -36,7 +36,7 @@ returns-in-None c =
     let k = c.args.key in
     record {
       holds = λ T h. (
-        holds-made es s.len (fit s) many s.tables.made m T h c.args.key.location.0 c.in_ok-check.ensures,
+        holds-made es s.len (fit s) many s.tables.made m T h c.args.key.location.0 c.in_ok-check.ensures.made,
         sym (holds-none es s.len (fit s) many s.tables.made m T h k (c.in-None.ensures.first h.placed)),
       );
       within = λ u w. tt;

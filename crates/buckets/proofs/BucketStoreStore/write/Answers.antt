@@ -31,7 +31,7 @@ pub returns-in_err-check-clause-holds : goal.returns-in_err-check-clause-holds
 returns-in_err-check-clause-holds c =
     let s = c.args.self.now in
     let p = err_from_is_err_and c.from_residual.result c.from_residual.ensures.1 in
-    rw (p.1, p.2) (λ T h. (holds-unmade s.entries.now s.len (fit s) (length s.chains.now) s.tables.made (memory_of c.args.bytes) T h c.args.key.location.0 c.in_err-check.ensures, h))
+    rw (p.1, p.2) (λ T h. (holds-unmade s.entries.now s.len (fit s) (length s.chains.now) s.tables.made (memory_of c.args.bytes) T h c.args.key.location.0 c.in_err-check.ensures.made, h))
 
 pub returns-in-Some : goal.returns-in-Some
 returns-in-Some c =
@@ -45,9 +45,9 @@ returns-in-Some c =
     let at = c.in-Some.ensures in
     record {
       holds = λ T h.
-          let there = holds-made es s.len (fit s) many s.tables.made m T h c.args.key.location.0 c.in_ok-check.ensures in
+          let there = holds-made es s.len (fit s) many s.tables.made m T h c.args.key.location.0 c.in_ok-check.ensures.made in
           let found = holds-found es s.len (fit s) many s.tables.made m T h k i (at.first h.placed) at.within in
-          (there, takes-present s.room T _ _ there (ap is_some found), holds-set es s.len (fit s) many s.tables.made m T h k i v (at.first h.placed) at.within c.in_ok-check.ensures);
+          (there, takes-present s.room T _ _ there (ap is_some found), holds-set es s.len (fit s) many s.tables.made m T h k i v (at.first h.placed) at.within c.in_ok-check.ensures.made);
       within = λ u w _ e. inside-set es s.len (fit s) u i v at.within w e;
       refusal = tt;
       tables = refl;
@@ -63,7 +63,7 @@ returns-then-self c =
     let k = c.args.key in
     record {
       holds = λ T h.
-          let there = holds-made es s.len (fit s) many s.tables.made m T h c.args.key.location.0 c.in_ok-check.ensures in
+          let there = holds-made es s.len (fit s) many s.tables.made m T h c.args.key.location.0 c.in_ok-check.ensures.made in
           let none = holds-none es s.len (fit s) many s.tables.made m T h k (c.in-None.ensures.first h.placed) in
           (there, takes-new s.room T _ _ there none ∙ le-ltb _ _ (omega (arith, holds-pairs es s.len (fit s) many s.tables.made m T h)), h);
       within = λ u w _ _. w;
@@ -81,10 +81,10 @@ returns-else-self c =
     let k = c.args.key in
     record {
       holds = λ T h.
-          let there = holds-made es s.len (fit s) many s.tables.made m T h c.args.key.location.0 c.in_ok-check.ensures in
+          let there = holds-made es s.len (fit s) many s.tables.made m T h c.args.key.location.0 c.in_ok-check.ensures.made in
           let first = c.in-None.ensures.first h.placed in
           let none = holds-none es s.len (fit s) many s.tables.made m T h k first in
-          (there, takes-new s.room T _ _ there none ∙ lt-ltb _ _ (omega (arith, holds-pairs es s.len (fit s) many s.tables.made m T h)), c.append.ensures.holds T h first c.in_ok-check.ensures);
+          (there, takes-new s.room T _ _ there none ∙ lt-ltb _ _ (omega (arith, holds-pairs es s.len (fit s) many s.tables.made m T h)), c.append.ensures.holds T h first c.in_ok-check.ensures.made);
       within = c.append.ensures.within;
       refusal = tt;
       tables = c.append.ensures.tables;

@@ -6,7 +6,7 @@ use Rattle.buckets.proofs.number.byte_of.Goals as goal
 
 pub returns-then-i-string : goal.returns-then-i-string
 returns-then-i-string c =
-    c.byte_at.ensures ∙ sym (get_or-bytes_of (memory_of c.args.bytes) c.args.string c.args.i 0 (omega arith))
+    (rw (c.from.ensures, c.from-then-i-string.ensures) at c.byte_at.ensures) ∙ sym (get_or-bytes_of (memory_of c.args.bytes) c.args.string c.args.i 0 (omega arith))
 
 pub returns-else-i-string : goal.returns-else-i-string
 returns-else-i-string c =

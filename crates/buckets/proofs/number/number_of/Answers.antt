@@ -18,7 +18,8 @@ returns-in-Str c =
     let s = c.in-Str.s in
     record {
       value =
-          number-string (bytes_of m s) s.len _ _ _ _ (length-bytes_of m s) c.byte_of-first.ensures c.byte_of-middle.ensures c.byte_of-last.ensures c.saturating_sub.ensures
+          (λ i. c.from.ensures i + c.from-in-Str.ensures i * 3 + c.from-in-Str-2.ensures i * 5 + c.from-in-Str-3.ensures i * 7)
+          ∙ number-string (bytes_of m s) s.len _ _ _ _ (length-bytes_of m s) c.byte_of-first.ensures c.byte_of-middle.ensures c.byte_of-last.ensures c.saturating_sub.ensures
           ∙ ap (λ (k : Value). number_of (meaning m k)) (sym c.in-Str.is);
       small = omega arith;
     }

@@ -24,7 +24,7 @@ returns-in_err-s c =
     let a = c.args in
     rw (p.1, p.2)
     (record {
-      answered = λ m o. sym (length-other (registers_of m a.registers.now) a.passed.first.0 a.passed.last.0 o _ (c.in_ok-v.ensures.held m) _ (c.in_err-s.ensures.its_bytes m));
+      answered = λ m o. sym (length-other (registers_of m a.registers.now) a.passed.first.0 a.passed.last.0 o _ (c.in_ok-v.ensures.held m) _ (c.in_err-s.ensures.meant m));
       within = tt;
       there = tt;
     })
@@ -37,7 +37,7 @@ returns c =
     let n : to_z w32 s.len ≡ pos s.len = omega (arith, ints) in
     record {
       answered = λ m o.
-          sym (length-of (registers_of m a.registers.now) a.passed.first.0 a.passed.last.0 o _ (v.held m) _ (c.in_ok-s.ensures.its_bytes m)
+          sym (length-of (registers_of m a.registers.now) a.passed.first.0 a.passed.last.0 o _ (v.held m) _ (c.in_ok-s.ensures.meant m)
           ∙ ap (λ (k : ℕ). Ok (Val.int (pos k), o)) (length-bytes_of m s)
           ∙ ap (λ (k : ℤ). Ok (Val.int k, o)) (sym n));
       within = omega arith;

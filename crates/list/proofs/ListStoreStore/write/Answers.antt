@@ -23,36 +23,36 @@ pub returns-in_err-check-clause-holds : goal.returns-in_err-check-clause-holds
 returns-in_err-check-clause-holds c =
     let s = c.args.self.now in
     let p = err_from_is_err_and c.from_residual.result c.from_residual.ensures.1 in
-    rw (p.1, p.2) (λ T h. (holds-unmade (held s.pairs) s.tables.made (memory_of c.args.bytes) T h c.args.key.location.0 c.in_err-check.ensures, h))
+    rw (p.1, p.2) (λ T h. (holds-unmade (held s.pairs) s.tables.made (memory_of c.args.bytes) T h c.args.key.location.0 c.in_err-check.ensures.made, h))
 
 pub returns-in-Some-clause-holds : goal.returns-in-Some-clause-holds
 returns-in-Some-clause-holds c = λ T h.
     let s = c.args.self.now in
     let m = memory_of c.args.bytes in
     let at = c.in-Some.ensures in
-    let there = holds-made (held s.pairs) s.tables.made m T h c.args.key.location.0 c.in_ok-check.ensures in
+    let there = holds-made (held s.pairs) s.tables.made m T h c.args.key.location.0 c.in_ok-check.ensures.made in
     let found = holds-found (held s.pairs) s.tables.made m T h c.args.key c.in-Some.i (record { key = c.args.key; value = c.args.value }) at.first at.within in
     rw (c.set.ensures.held, c.items.ensures)
-    (there, takes-present (room s.pairs) T _ _ there (ap is_some found), holds-set (held s.pairs) s.tables.made m T h c.args.key c.in-Some.i _ c.args.value at.first at.within c.in_ok-check.ensures)
+    (there, takes-present (room s.pairs) T _ _ there (ap is_some found), holds-set (held s.pairs) s.tables.made m T h c.args.key c.in-Some.i _ c.args.value at.first at.within c.in_ok-check.ensures.made)
 
 pub returns-in-Ok-clause-holds : goal.returns-in-Ok-clause-holds
 returns-in-Ok-clause-holds c = λ T h.
     let s = c.args.self.now in
     let m = memory_of c.args.bytes in
     let first = c.in-None.ensures.first in
-    let there = holds-made (held s.pairs) s.tables.made m T h c.args.key.location.0 c.in_ok-check.ensures in
+    let there = holds-made (held s.pairs) s.tables.made m T h c.args.key.location.0 c.in_ok-check.ensures.made in
     let none = holds-none (held s.pairs) s.tables.made m T h c.args.key first in
     rw c.in-Ok.ensures.held (
       there,
       takes-new (room s.pairs) T _ _ there none ∙ lt-ltb _ _ (omega (arith, holds-pairs (held s.pairs) s.tables.made m T h, c.in-Ok.ensures.full)),
-      holds-push (held s.pairs) s.tables.made m T h c.args.key c.args.value first c.in_ok-check.ensures,
+      holds-push (held s.pairs) s.tables.made m T h c.args.key c.args.value first c.in_ok-check.ensures.made,
     )
 
 pub returns-in-Err-clause-holds : goal.returns-in-Err-clause-holds
 returns-in-Err-clause-holds c = λ T h.
     let s = c.args.self.now in
     let m = memory_of c.args.bytes in
-    let there = holds-made (held s.pairs) s.tables.made m T h c.args.key.location.0 c.in_ok-check.ensures in
+    let there = holds-made (held s.pairs) s.tables.made m T h c.args.key.location.0 c.in_ok-check.ensures.made in
     let none = holds-none (held s.pairs) s.tables.made m T h c.args.key c.in-None.ensures.first in
     rw c.in-Err.ensures.held
     (there, takes-new (room s.pairs) T _ _ there none ∙ le-ltb _ _ (omega (arith, holds-pairs (held s.pairs) s.tables.made m T h, c.in-Err.ensures.full.1)), h)

@@ -15,4 +15,4 @@ needed m None = refl
 needed m (Some v) = refl
 
 pub returns-clause-held : goal.returns-clause-held
-returns-clause-held c = λ m. rw c.ok_or.ensures.value (value-of-slot m c.args.registers.now c.args.a.0 _ _ (needed m _) c.slot.ensures)
+returns-clause-held c = λ m. rw c.ok_or.ensures.value (value-of-slot m c.args.registers.now c.args.a.0 _ _ (needed m _) c.slot.ensures.held)

@@ -36,4 +36,4 @@ returns-else-eq c =
     let a = c.args.a in
     let b = c.args.b in
     decides m a b c.all.result (omega arith)
-    (cases_from_all _ _ _ (Alike m a b) (λ k. Alike m a b k → ⊥) c.all.ensures.ran (YieldsList-from_range 0 a.len a.len refl (omega arith)) (λ x q k. search (rules, tests)) (λ x q k. search (rules, tests)))
+    (cases_from_all _ _ _ (Alike m a b) (λ k. Alike m a b k → ⊥) c.all.ensures.ran (YieldsList-from_range 0 _ a.len refl (omega (arith, c.from.ensures))) (λ x q k. search (rules, tests)) (λ x q k. search (rules, tests)))

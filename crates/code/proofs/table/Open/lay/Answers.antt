@@ -3,4 +3,4 @@ use Rattle.code.proofs.Laying.{laid}
 use Rattle.code.proofs.table.Open.lay.Goals as goal
 
 pub returns-clause-laid : goal.returns-clause-laid
-returns-clause-laid c = λ m P d l. rw c.end-end.ensures (laid l _ _ refl refl (omega arith))
+returns-clause-laid c = λ m P d l. rw c.end-end.ensures.behind (laid l _ _ refl refl (omega arith))

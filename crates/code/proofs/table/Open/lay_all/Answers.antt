@@ -26,10 +26,15 @@ loop-instruction-preserved c =
           rw (take_more c.args.code.now n first c.loop-instruction-test.true, map_push (instr m), ← append_assoc)
           (e.laid m P _ (v.laid m P d l));
       here = omega (arith, w.2, v.here);
-      origins = λ i d h.
-          elim (cases_eq i n) [
-            | inl q ↦ rw (q, ← v.here, w.1) (ap (λ (x : Record). x.origin) (get_or-set_same c.loop-instruction.records (end_of c.loop-instruction.self.current) _ d w.0))
-            | inr q ↦ ap (λ (x : Record). x.origin) (e.elsewhere _ d (λ k. q (omega (arith, k, v.here)))) ∙ v.origins i d (omega (arith, q))
+      origins = λ i d a b.
+          elim (cases_eq i (end_of c.loop-instruction.self.current)) [
+            | inl q ↦ rw (q, w.1) (ap (λ (x : Record). x.origin) (get_or-set_same c.loop-instruction.records (end_of c.loop-instruction.self.current) _ d w.0))
+            | inr q ↦ ap (λ (x : Record). x.origin) (e.elsewhere i d q) ∙ v.origins i d a (omega (arith, q, w.2))
+          ];
+      elsewhere = λ i d a.
+          elim a [
+            | inl h ↦ e.elsewhere i d (λ q. omega (arith, h, q, v.here)) ∙ v.elsewhere i d (inl h)
+            | inr h ↦ e.elsewhere i d (λ q. omega (arith, h, q, w.2)) ∙ v.elsewhere i d (inr (omega (arith, h, w.2)))
           ];
     }
 

@@ -1,6 +1,9 @@
-use Rattle.std.proofs.Common.{refl}
+use Rattle.std.proofs.Common.{◌≡◌, arith}
+use Rattle.code.specs.Laying.{end_of}
 use Rattle.code.proofs.Laying.{begun}
 use Rattle.code.proofs.table.Open.next_function.Goals as goal
 
 pub returns-clause-begun : goal.returns-clause-begun
-returns-clause-begun c = λ m xs P d l. begun l _ c.push.ensures.items (rw c.end-end.ensures refl)
+returns-clause-begun c = λ m xs P d l.
+    let e : c.in-Ok.start ≡ end_of c.args.self.now.current = grind arith in
+    begun l _ c.push.ensures.items (λ i. record { start = e i; len = 0 })

@@ -1,6 +1,5 @@
-use Rattle.std.proofs.Common.{inl, inr, ◌<◌, length, sym, refl, arith}
+use Rattle.std.proofs.Common.{refl, arith}
 use Rattle.std.proofs.lemmas.Grind.{common_steps}
-use Rattle.std.proofs.lemmas.Bool.Decides.{Decides-eqb, eqb_tells}
 use Rattle.operands.specs.Globals.{globals_of}
 use Rattle.operands.proofs.Naming.{held_found, held_none, put-found, put-fresh, has-place, has_room, no_room, entry-set}
 use Rattle.operands.proofs.globals.Globals.write.Goals as goal
@@ -8,7 +7,6 @@ use Rattle.operands.proofs.globals.Globals.write.Goals as goal
 pub returns-in-None-clause-written : goal.returns-in-None-clause-written
 unfolding globals_of
 returns-in-None-clause-written c =
-    let full = (Decides-eqb _ _).0 (sym c.if-is_full.ensures.value) in
     λ m. (no_room m c.args.name.0 _ (held_none m c.args.name.0 _ c.in-None.ensures.first) (omega arith), refl)
 
 pub returns-in-Some-clause-written : goal.returns-in-Some-clause-written
@@ -28,9 +26,7 @@ returns-in-Some-clause-within c =
 pub returns-in-None-2-clause-written : goal.returns-in-None-2-clause-written
 unfolding globals_of
 returns-in-None-2-clause-written c =
-    let n = length c.args.self.now.entries.items in
-    let few : n < 32 = elim (eqb_tells n 32) [ inl h ↦ cc (h.0, c.if-is_full.ensures.value) | inr h ↦ omega (arith, h.1, c.if-is_full.ensures.fits) ] in
     λ m. (
-      has_room m c.args.name.0 _ few,
+      has_room m c.args.name.0 _ (omega arith),
       put-fresh m c.args.name.0 _ _ c.args.value c.in-None.ensures.first c.push.ensures.items,
     )

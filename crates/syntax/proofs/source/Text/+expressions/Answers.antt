@@ -205,17 +205,17 @@ primary-returns-in-Name t c =
 pub primary-returns-in-Integer : goal.primary-returns-in-Integer
 primary-returns-in-Integer t c =
     let i = c.in-Some.ensures.inside in
-    record { moves = earlier i.0 c.integer.ensures.moves; reads = c.integer.ensures.reads c.args.at (shown-as c.args.self.bytes.now c.args.at c.in-Some.sight c.in-Some.ensures.shows c.in-Integer.is) }
+    record { moves = earlier i.0 c.integer.ensures.moves; reads = c.integer.ensures.reads c.args.at _ (shown-as c.args.self.bytes.now c.args.at c.in-Some.sight c.in-Some.ensures.shows c.in-Integer.is) }
 
 pub primary-returns-in-Field : goal.primary-returns-in-Field
 primary-returns-in-Field t c =
     let i = c.in-Some.ensures.inside in
-    record { moves = earlier i.0 c.field.ensures.moves; reads = c.field.ensures.reads c.args.at (shown-as c.args.self.bytes.now c.args.at c.in-Some.sight c.in-Some.ensures.shows c.in-Field.is) }
+    record { moves = earlier i.0 c.field.ensures.moves; reads = c.field.ensures.reads c.args.at _ (shown-as c.args.self.bytes.now c.args.at c.in-Some.sight c.in-Some.ensures.shows c.in-Field.is) }
 
 pub primary-returns-in-Str : goal.primary-returns-in-Str
 primary-returns-in-Str t c =
     let i = c.in-Some.ensures.inside in
-    record { moves = earlier i.0 c.string.ensures.moves; reads = c.string.ensures.reads c.args.at (shown-as c.args.self.bytes.now c.args.at c.in-Some.sight c.in-Some.ensures.shows c.in-Str.is) }
+    record { moves = earlier i.0 c.string.ensures.moves; reads = c.string.ensures.reads c.args.at _ (shown-as c.args.self.bytes.now c.args.at c.in-Some.sight c.in-Some.ensures.shows c.in-Str.is) }
 
 pub primary-returns-in-Word : goal.primary-returns-in-Word
 primary-returns-in-Word t c =

@@ -8,7 +8,7 @@ use Rattle.syntax.proofs.Reading.{never}
 use Rattle.syntax.proofs.source.Text.integer.Goals as goal
 
 pub returns-clause-reads : goal.returns-clause-reads
-returns-clause-reads c p begins =
+returns-clause-reads c p us begins =
     let s = c.args.sight in
     let w = slice c.args.self.bytes.now s.from s.to in
     let r = integer-read w c.value-number.result c.value-number.ensures.read in

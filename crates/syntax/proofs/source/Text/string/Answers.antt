@@ -9,7 +9,7 @@ use Rattle.syntax.proofs.Reading.{never}
 use Rattle.syntax.proofs.source.Text.string.Goals as goal
 
 pub returns-clause-reads : goal.returns-clause-reads
-returns-clause-reads c p begins =
+returns-clause-reads c p us begins =
     let s = c.args.sight in
     let w = slice c.args.self.bytes.now (s.from + 1) (s.to - 1) in
     let n : c.span-word.result.len ≡ length w = ap (λ z. z.len) c.span-word.ensures.where_they_lie ∙ sym (simp (length-take, length-drop) (omega arith)) in
