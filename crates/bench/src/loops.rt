@@ -1,9 +1,9 @@
 // Loops that count, in measured steps: in registers, in a table, by calls.
 use anyhow::anyhow;
 use buckets::{BucketStore, Chain, Chained};
-use calls::frame::Frame;
+use calls::frame::FIRST;
 use calls::program::Code;
-use code::table::{Full, Open, Place, Record, Sealed, UNLAID};
+use code::table::{Full, Open, Record, Sealed, UNLAID};
 use effects::literals::Literals;
 use list::{ListStore, Pair};
 use machine::instruction::{Instruction, Offset, Register};
@@ -33,11 +33,6 @@ const D: Register = Register(3);
 const E: Register = Register(4);
 
 const F: Register = Register(5);
-
-const NO_FRAME: Frame = Frame {
-    function: Identifier(0),
-    pc: Place(0),
-};
 
 const IN_REGISTERS: [Instruction; 8] = [
     Instruction::Const(A, Value::Int(0)),
@@ -100,7 +95,7 @@ fn laid(
 
 // The steps of a run to its end, over registers that are unset and a store that is empty.
 fn run<S: Store>(sealed: &Sealed, records: &[Record], store: &mut S) -> u32 {
-    let mut callers = [NO_FRAME; 31];
+    let mut callers = [FIRST; 31];
     let mut registers = [None; 4096];
     let mut strings = [0u8; 32768];
     let mut output = [0u8; 16384];

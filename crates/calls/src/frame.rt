@@ -22,7 +22,7 @@ pub struct Frame {
 }
 
 // A run begins at the first place of function 0.
-const FIRST: Frame = Frame {
+pub const FIRST: Frame = Frame {
     function: Identifier(0),
     pc: Place(0),
 };

@@ -3,26 +3,21 @@
 
 use crate::listings::{FIXED, LISTINGS, Listing};
 use buckets::{BucketStore, Chain, Chained};
-use calls::frame::Frame;
+use calls::frame::FIRST;
 use calls::program::Code;
-use code::table::{Full, Open, Place, Record, Sealed, UNLAID};
+use code::table::{Full, Open, Record, Sealed, UNLAID};
 use effects::literals::Literals;
 use list::{ListStore, Pair};
 use machine::ending::Ending;
 use std::io;
 use store::Store;
 use store::capacity::Capacity;
-use store::value::{Identifier, Value};
+use store::value::Value;
 use vm::run::Run;
 
 mod listings;
 
 const BUDGET: u32 = 1000;
-
-const NO_FRAME: Frame = Frame {
-    function: Identifier(0),
-    pc: Place(0),
-};
 
 // Both functions of a listing. `bench` lays its own the same way: five calls, which a function for both would only rename.
 fn lay(listing: Listing, records: &mut [Record]) -> Result<Sealed, Full> {
@@ -48,7 +43,7 @@ fn run<S: Store>(
     records: &[Record],
     store: &mut S,
 ) -> io::Result<()> {
-    let mut callers = [NO_FRAME; 31];
+    let mut callers = [FIRST; 31];
     let mut registers = [None; 4096];
     let mut strings = [0; 32768];
     let mut output = [0; 24];

@@ -1,5 +1,5 @@
 // Runs in measured steps, over any store and whatever memory is lent.
-ghost use Rattle.std.specs.Prelude.{◌≡◌, ℕ, ◌<◌, ◌≤◌, [], length, MatchBool, MatchResult, OnOk};
+ghost use Rattle.std.specs.Prelude.{◌≡◌, ℕ, ◌<◌, ◌≤◌, [], length, MatchResult, OnOk};
 ghost use Rattle.machine.specs.Limits.{Limits, registers_per_frame};
 ghost use Rattle.machine.specs.Instr.{Program};
 ghost use Rattle.machine.specs.State.{State, initial};
@@ -85,12 +85,16 @@ impl<'c, 'r, 'm, 'o> Run<'c, 'r, 'm, 'o> {
     }
 
     // Whether there is memory for all that a step can leave.
-    fn fits(&self) -> bool
-        ensures roomy { MatchBool result (Roomy self.now) (Roomy self.now → ⊥) }
+    fn fits(&self) -> Result<(), TooSmall>
+        ensures roomy { MatchResult result (λ _. Roomy self.now) (λ _. Roomy self.now → ⊥) }
     {
-        self.frames.callers.room() >= FRAMES - 1
-            && self.frames.registers.len() >= REGISTERS * FRAMES
-            && self.spent.strings.room() >= STRING_BYTES
+        if self.frames.callers.room() < FRAMES - 1
+            || self.frames.registers.len() < REGISTERS * FRAMES
+            || self.spent.strings.room() < STRING_BYTES
+        {
+            return Err(TooSmall);
+        }
+        Ok(())
     }
 
     fn advance<S: Store>(&mut self, code: Code<'_, '_, '_>, store: &mut S) -> Result<(), Ending>
@@ -99,13 +103,13 @@ impl<'c, 'r, 'm, 'o> Run<'c, 'r, 'm, 'o> {
         ensures lent { SameMemory self.old self.new }
     {
         let running = self.frames.running;
-        match code
+        let fetched = code
             .sealed
-            .fetch(code.records, running.function, running.pc)
-        {
-            Some(record) => self.dispatch(record.instruction, code, store),
-            None => Err(Ending::Stuck),
-        }
+            .fetch(code.records, running.function, running.pc);
+        let Some(record) = fetched else {
+            return Err(Ending::Stuck);
+        };
+        self.dispatch(record.instruction, code, store)
     }
 
     // One step, and how it ended the run, if it did. What is lent is looked at first: where it is too small nothing is done.
@@ -118,9 +122,7 @@ impl<'c, 'r, 'm, 'o> Run<'c, 'r, 'm, 'o> {
         ensures stepped { (P : Program) (L : Limits) (m : State) → Stands S.Store store.old (lent code.entry self.old) P L m → Stepped (step P L m) m result (Stands S.Store store.new (lent code.entry self.new) P L) }
         ensures lent { SameMemory self.old self.new }
     {
-        if !self.fits() {
-            return Err(TooSmall);
-        }
+        self.fits()?;
         Ok(self.advance(code, store).err())
     }
 
@@ -154,9 +156,7 @@ impl<'c, 'r, 'm, 'o> Run<'c, 'r, 'm, 'o> {
         ensures ran { (P : Program) (L : Limits) (m : State) → Stands S.Store store.old (lent code.entry self.old) P L m → RanTo P L n m result (Stands S.Store store.new (lent code.entry self.new) P L) }
         ensures lent { SameMemory self.old self.new }
     {
-        if !self.fits() {
-            return Err(TooSmall);
-        }
+        self.fits()?;
         Ok(self.advance_by(n, code, store))
     }
 }
