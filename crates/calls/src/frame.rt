@@ -27,6 +27,13 @@ pub const FIRST: Frame = Frame {
     pc: Place(0),
 };
 
+// The frames as numbers, which lend nothing: the running one, and how many callers wait for it.
+#[derive(Clone, Copy, Debug, PartialEq, Eq)]
+pub struct Calls {
+    pub running: Frame,
+    pub waiting: usize,
+}
+
 // The running frame, the callers that wait for it, and the registers of all in one slice, the oldest caller's first.
 // Whatever is lent makes frames: a run looks at the sizes before its first step.
 #[derive(Drop)]
@@ -70,6 +77,17 @@ impl<'c, 'r> Frames<'c, 'r> {
             running,
             callers,
             registers,
+        }
+    }
+
+    // The running frame, and how many callers wait for it.
+    pub fn calls(&self) -> Calls
+        ensures running { result.running ≡ self.now.running }
+        ensures waiting { result.waiting ≡ waiting self.now }
+    {
+        Calls {
+            running: self.running,
+            waiting: self.callers.len(),
         }
     }
 

@@ -4,6 +4,14 @@ ghost use Rattle.std.specs.Prelude.{◌≡◌, take};
 use crate::output::Output;
 use crate::strings::Strings;
 
+// What was spent as numbers, which lend nothing: strings made, their bytes, and bytes printed.
+#[derive(Clone, Copy, Debug, PartialEq, Eq)]
+pub struct Numbers {
+    pub strings: u16,
+    pub bytes: u16,
+    pub printed: usize,
+}
+
 #[derive(Drop)]
 pub struct Spent<'m, 'o> {
     pub strings: Strings<'m>,
@@ -27,5 +35,17 @@ impl<'m, 'o> Spent<'m, 'o> {
         ensures bytes { result.now ≡ take self.now.output.printed self.now.output.bytes.now }
     {
         &self.output.bytes[..self.output.printed]
+    }
+
+    // How many strings were made, how many bytes they take, and how many were printed.
+    pub fn numbers(&self) -> Numbers
+        ensures strings { (result.strings ≡ self.now.strings.count) × (result.bytes ≡ self.now.strings.used) }
+        ensures printed { result.printed ≡ self.now.output.printed }
+    {
+        Numbers {
+            strings: self.strings.count,
+            bytes: self.strings.used,
+            printed: self.output.printed,
+        }
     }
 }
