@@ -5,7 +5,7 @@ use Rattle.text.specs.Memory.{Memory}
 use Rattle.store.specs.declared.Store.{Ghosts}
 use Rattle.store.specs.Tables.{Tables}
 use Rattle.machine.specs.declared.ending.Ending.{Ending}
-use Rattle.machine.specs.Limits.{Limits, most_string_bytes}
+use Rattle.machine.specs.Limits.{Limits, most_frames, most_string_bytes}
 use Rattle.machine.specs.Outcome.{Outcome, ◌>>=◌}
 use Rattle.machine.specs.Instr.{Program}
 use Rattle.machine.specs.State.{State, at, world_of, Next, goes, ends}
@@ -18,7 +18,9 @@ use Rattle.code.specs.declared.table.Extent.{Extent}
 use Rattle.code.specs.declared.table.Sealed.{Sealed}
 use Rattle.code.specs.Programs.{program_of, records_at, extent_of}
 use Rattle.calls.specs.declared.program.Code.{Code}
+use Rattle.calls.specs.declared.frame.Calls.{Calls}
 use Rattle.calls.specs.declared.frame.Frames.{Frames}
+use Rattle.effects.specs.declared.spent.Numbers.{Numbers}
 use Rattle.calls.specs.Applying.{SameSpace}
 use Rattle.calls.specs.Frames.{LiveWithin, Sized, SameFrames}
 use Rattle.calls.specs.Calling.{Content, content, memory_of, world_in, state_in}
@@ -44,6 +46,14 @@ memory_at l = memory_of (content_of l)
 pub record Roomy (r : Run) : Type 0 where
   pub sized : Sized r.frames
   pub strings : most_string_bytes ≤ length r.spent.strings.bytes.now
+
+-- what these numbers count can stand in room for so many callers, bytes of strings and bytes of output
+pub record Counted (c : Calls) (n : Numbers) (room made out : ℕ) : Type 0 where
+  pub few : c.waiting < most_frames
+  pub callers : c.waiting ≤ room
+  pub strings : n.bytes ≤ made
+  pub charged : n.bytes ≤ most_string_bytes
+  pub printed : n.printed ≤ out
 
 -- the same lender's memory
 pub record SameMemory (r q : Run) : Type 0 where

@@ -1,5 +1,5 @@
 // Runs in measured steps, over any store and whatever memory is lent.
-ghost use Rattle.std.specs.Prelude.{◌≡◌, ℕ, ◌<◌, ◌≤◌, [], length, MatchResult, OnOk};
+ghost use Rattle.std.specs.Prelude.{◌≡◌, ℕ, ◌<◌, ◌≤◌, [], length, take, IfOk, MatchResult, OnOk};
 ghost use Rattle.machine.specs.Limits.{Limits, registers_per_frame};
 ghost use Rattle.machine.specs.Instr.{Program};
 ghost use Rattle.machine.specs.State.{State, initial};
@@ -11,10 +11,11 @@ ghost use Rattle.calls.specs.Applying.{memory_in};
 ghost use Rattle.code.specs.Programs.{program_of};
 ghost use Rattle.vm.specs.Running.{Stepped, RanBy, RanTo};
 
-use calls::frame::{FRAMES, Frame, Frames, REGISTERS};
+use calls::frame::{Calls, FRAMES, Frame, Frames, REGISTERS};
 use calls::program::Code;
-use effects::spent::Spent;
-use effects::strings::STRING_BYTES;
+use effects::output::Output;
+use effects::spent::{Numbers, Spent};
+use effects::strings::{STRING_BYTES, Strings};
 use machine::ending::Ending;
 use operands::globals::Globals;
 use store::Store;
@@ -40,7 +41,7 @@ pub struct Run<'c, 'r, 'm, 'o> {
 }
 
 impl<'c, 'r, 'm, 'o> Run<'c, 'r, 'm, 'o> {
-    ghost use Rattle.vm.specs.Standing.{lent, limits_of, CodeWithin, Roomy, Begins, SameMemory, Stands, Steps};
+    ghost use Rattle.vm.specs.Standing.{lent, limits_of, CodeWithin, Roomy, Counted, Begins, SameMemory, Stands, Steps};
 
     // No caller, no global, nothing made or printed; `begin` unsets the registers.
     pub fn new(
@@ -63,6 +64,57 @@ impl<'c, 'r, 'm, 'o> Run<'c, 'r, 'm, 'o> {
             globals: Globals::new(),
             spent: Spent::nothing(strings, output),
         }
+    }
+
+    // Whether a run with these numbers can stand in memory of these lengths.
+    pub fn room_for(
+        calls: Calls,
+        spent: Numbers,
+        callers: &[Frame],
+        strings: &[u8],
+        output: &[u8],
+    ) -> Result<(), TooSmall>
+        ensures counted { MatchResult result (λ _. Counted calls spent (length callers.now) (length strings.now) (length output.now)) (λ _. Counted calls spent (length callers.now) (length strings.now) (length output.now) → ⊥) }
+    {
+        if calls.waiting >= FRAMES
+            || calls.waiting > callers.len()
+            || usize::from(spent.bytes) > strings.len().min(STRING_BYTES)
+            || spent.printed > output.len()
+        {
+            return Err(TooSmall);
+        }
+        Ok(())
+    }
+
+    // A run that stands in lent memory with these numbers. Numbers that no run has there are refused, and nothing is written:
+    // where `room_for` has passed nothing is refused.
+    pub fn resume(
+        calls: Calls,
+        callers: &'c mut [Frame],
+        registers: &'r mut [Option<Value>],
+        globals: Globals,
+        spent: Numbers,
+        strings: &'m mut [u8],
+        output: &'o mut [u8],
+    ) -> Result<Run<'c, 'r, 'm, 'o>, TooSmall>
+        ensures refused { MatchResult result (λ _. Counted calls spent (length callers.old) (length strings.old) (length output.old)) (λ _. Counted calls spent (length callers.old) (length strings.old) (length output.old) → ⊥) }
+        ensures frames { IfOk result (λ r. (r.frames.running ≡ calls.running) × (held r.frames.callers ≡ take calls.waiting callers.old)) }
+        ensures callers { IfOk result (λ r. (r.frames.callers.items.ghost_name ≡ callers.entry.ghost_name) × (room r.frames.callers ≡ length callers.old)) }
+        ensures registers { IfOk result (λ r. r.frames.registers ≡ registers.entry) }
+        ensures globals { IfOk result (λ r. r.globals ≡ globals) }
+        ensures spent { IfOk result (λ r. (r.spent.strings.count ≡ spent.strings) × (r.spent.strings.used ≡ spent.bytes) × (r.spent.output.printed ≡ spent.printed)) }
+        ensures strings { IfOk result (λ r. r.spent.strings.bytes ≡ strings.entry) }
+        ensures output { IfOk result (λ r. r.spent.output.bytes ≡ output.entry) }
+    {
+        Self::room_for(calls, spent, callers, strings, output)?;
+        Ok(Run {
+            frames: Frames::resume(calls.running, callers, calls.waiting, registers),
+            globals,
+            spent: Spent {
+                strings: Strings::resume(strings, spent.bytes, spent.strings),
+                output: Output::resume(output, spent.printed),
+            },
+        })
     }
 
     // A run begins: one frame, no register set, no global, no table, nothing made or printed.
