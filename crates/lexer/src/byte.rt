@@ -58,7 +58,8 @@ impl Run {
     {
         let kind = ByteKind::from(b);
         match self {
-            Run::Blanks => matches!(kind, ByteKind::Blank),
+            // by the byte: it is asked before each token, which is then told by its kind
+            Run::Blanks => matches!(b, b' ' | b'\t' | b'\r' | b'\n'),
             Run::Identifier => matches!(kind, ByteKind::Identifying | ByteKind::Minus),
             Run::Digits => matches!(kind, ByteKind::Digit),
             Run::Quoted => !matches!(kind, ByteKind::Quote),

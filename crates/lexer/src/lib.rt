@@ -23,10 +23,12 @@ pub fn keyword_of(bytes: &[u8]) -> Option<Keyword>
     ensures whose_word_it_is { result ≡ keyword_of bytes.now }
     ensures by_its_letters { (k : Keyword) → (result ≡ Some k) ↔ (bytes.now ≡ word k) }
 {
-    Keyword::ALL
-        .iter()
-        .copied()
-        .find(|keyword| keyword.word() == bytes)
+    for keyword in Keyword::ALL {
+        if bytes == keyword.word() {
+            return Some(keyword);
+        }
+    }
+    None
 }
 
 // The next token from `at` on, behind blanks; none at the text's end.
