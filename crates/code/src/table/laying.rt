@@ -22,6 +22,7 @@ fn jump_of(test: Option<Register>, n: Offset) -> Instruction
 // The table is no part of `Open`: the caller lends it anew with each call. A record is written by its index, since after a `get_mut` no proof knows the others.
 impl Open {
     // Nothing laid: function 0 begins at the first record.
+    #[tactic(auto, unfolding(crate::specs::Programs::code_at, crate::specs::Programs::program_at))]
     pub fn new() -> Open
         ensures nothing_laid { (m : Memory) (xs : List Record) → Lays m xs result [] [] }
     {
