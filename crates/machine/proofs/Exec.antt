@@ -6,17 +6,18 @@ use Rattle.store.specs.Val.{Val, equal_val}
 use Rattle.store.specs.Tables as store
 use Rattle.store.specs.Tables.{look, put, made, takes}
 use Rattle.machine.specs.declared.arith.Op.{Op}
+use Rattle.machine.specs.declared.arith.Order.{Order}
 use Rattle.machine.specs.declared.instruction.Kind.{Kind}
 use Rattle.machine.specs.declared.builtin.Builtin.{Builtin}
 use Rattle.machine.specs.declared.ending.Ending.{Ending}
-use Rattle.machine.specs.declared.ending.Ending.TheVariants.{Finished, NoTableSpace, NoFrameSpace}
+use Rattle.machine.specs.declared.ending.Ending.TheVariants.{Finished, NoTableSpace, NoFrameSpace, Stuck}
 use Rattle.machine.specs.Limits.{registers_per_frame, most_frames, Limits}
 use Rattle.machine.specs.Outcome.{Outcome}
 use Rattle.machine.specs.Arith as arithmetic
 use Rattle.machine.specs.Arith.{in_order}
 use Rattle.machine.specs.Effects.{Effects}
 use Rattle.machine.specs.Builtin.{builtin_of, apply}
-use Rattle.machine.specs.Instr.{Instr, Program}
+use Rattle.machine.specs.Instr.{Instr, Program, fetch}
 use Rattle.machine.specs.State.{Registers, write, passed, Frame, frame, World, with_tables, with_globals, with_effects, State, at, goes, ends}
 use Rattle.machine.specs.Operands.{truth, is_zero, is_of}
 use Rattle.machine.specs.Step.{holds_global, halted, next_of, exec, step}
@@ -34,6 +35,11 @@ module _ {P : Program} {L : Limits} {f pc : ℕ} {R : Registers} {S : List Frame
   step_is : {i : Instr} (x : Outcome State) → Fetch P f pc i → exec P L i (at f pc R S W) ≡ x → Step P L (at f pc R S W) (next_of W.effects x)
   unfolding step
   step_is x h e = record { is = rw (h.is, e) }
+
+  -- past the last instruction, or in what names no function
+  pub end-nowhere : fetch P f pc ≡ None → Step P L (at f pc R S W) (ends Stuck W.effects)
+  unfolding step
+  end-nowhere e = record { is = rw e }
 
   pub do-const : {a : ℕ} {v : Val} → Fetch P f pc (Instr.const a v) → a < registers_per_frame → Step P L (at f pc R S W) (goes (at f (suc pc) (write R a v) S W))
   unfolding exec
@@ -54,6 +60,10 @@ module _ {P : Program} {L : Limits} {f pc : ℕ} {R : Registers} {S : List Frame
   pub do-eq : {a b c : ℕ} {v w : Val} → Fetch P f pc (Instr.eq a b c) → a < registers_per_frame → Has R b v → Has R c w → Step P L (at f pc R S W) (goes (at f (suc pc) (write R a (truth (equal_val v w))) S W))
   unfolding exec
   do-eq {a} h l hb hc = step_is (Ok _) h (rw (lt-ltb a registers_per_frame l, hb.is, hc.is))
+
+  pub do-ordered : {o : Order} {a b c : ℕ} {x y : ℤ} → Fetch P f pc (Instr.ordered o a b c) → a < registers_per_frame → Has R b (Val.int x) → Has R c (Val.int y) → Step P L (at f pc R S W) (goes (at f (suc pc) (write R a (truth (in_order o x y))) S W))
+  unfolding exec
+  do-ordered {a = a} h l hb hc = step_is (Ok _) h (rw (lt-ltb a registers_per_frame l, hb.is, hc.is))
 
   pub do-is_kind : {k : Kind} {a b : ℕ} {v : Val} → Fetch P f pc (Instr.is_kind k a b) → a < registers_per_frame → Has R b v → Step P L (at f pc R S W) (goes (at f (suc pc) (write R a (truth (is_of k v))) S W))
   unfolding exec

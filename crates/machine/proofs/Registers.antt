@@ -1,5 +1,6 @@
 -- The laws of reading and writing registers.
-use Rattle.std.proofs.Common.{◌≡◌, ℕ, zero, suc, ◌-◌, ◌<◌, ◌≢◌, List, [], ◌∷◌, ◌++◌, map, length, set, replicate, Some, None, Ok, refl, ap, arith}
+use Rattle.std.proofs.Common.{◌≡◌, ℕ, zero, suc, ◌-◌, ◌<◌, ◌≤◌, ◌≢◌, List, [], ◌∷◌, ◌++◌, map, length, set, replicate, Some, None, Ok, refl, ap, arith}
+use Rattle.std.proofs.lemmas.List.{length-append, length-map, length-replicate}
 use Rattle.std.specs.List.{slice_get}
 use Rattle.store.specs.Val.{Val}
 use Rattle.machine.specs.Limits.{registers_per_frame}
@@ -46,6 +47,11 @@ front_reads (v ∷ vs) n (suc a) = front_reads vs n a
 pub passed_reads : (vs : List Val) (a : ℕ) → read (passed vs) a ≡ slice_get vs a
 unfolding passed
 passed_reads vs a = front_reads vs (registers_per_frame - length vs) a
+
+-- a frame has all its registers
+pub passed_length : (vs : List Val) → length vs ≤ registers_per_frame → length (passed vs) ≡ registers_per_frame
+unfolding passed
+passed_length vs h = simp (length-append, length-map, length-replicate) (omega arith)
 
 pub values-held : {R : Registers} {a : ℕ} {vs : List Val} → Hold R a vs → values_from R a (length vs) ≡ Ok vs
 unfolding values_from
