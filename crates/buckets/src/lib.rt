@@ -38,6 +38,19 @@ pub struct Chain {
     last: usize,
 }
 
+// Memory to lend, as constants, which a call of `default` is not: what it holds before does not matter.
+pub const UNUSED: Chained = Chained {
+    key: Key {
+        location: Location(0),
+        value: Value::Int(0),
+    },
+    value: Value::Int(0),
+    bucket: 0,
+    next: 0,
+};
+
+pub const UNLINKED: Chain = Chain { first: 0, last: 0 };
+
 #[derive(Drop)]
 pub struct BucketStore<'e, 'c> {
     // no `Stack`: an entry counts only once its chain names it, and the two change together

@@ -5,7 +5,7 @@ use crate::ask::{Reply, agree, put_to};
 use crate::random::Random;
 use crate::script::{AB, AB_MADE, FIXED, MADE, SCRIPT, TEXTS};
 use crate::show::Shown;
-use buckets::{BucketStore, Chain, Chained};
+use buckets::{BucketStore, UNLINKED, UNUSED};
 use list::{ListStore, Pair};
 use std::io;
 use store::Store;
@@ -95,8 +95,8 @@ fn main(rt: HostRuntime) -> io::Result<()> {
         made: MADE,
     };
     let mut pairs = [Pair::default(); 40];
-    let mut entries = [Chained::default(); 40];
-    let mut chains = [Chain::default(); 5];
+    let mut entries = [UNUSED; 40];
+    let mut chains = [UNLINKED; 5];
 
     // small and large lie within the limits, so neither is refused
     let Ok(small) = Capacity::new(2, 3) else {
