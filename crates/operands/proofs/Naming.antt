@@ -51,7 +51,7 @@ module _ (m : Memory) (n : ℕ) where
   value-later e es (Some i) = refl
 
   -- the first of a name is the table's
-  look-named : (es : List Global) → look (Val.identifier n) (map (filed m) es) ≡ value_at es (position named es)
+  pub look-named : (es : List Global) → look (Val.identifier n) (map (filed m) es) ≡ value_at es (position named es)
   unfolding look equal_val
   look-named [] = refl
   look-named (e ∷ es) =
@@ -82,7 +82,7 @@ module _ (m : Memory) (n : ℕ) where
     after-later e es None = refl
     after-later e es (Some i) = refl
 
-    put-named : (es : List Global) → map (filed m) (after es (position named es)) ≡ put (Val.identifier n) (meaning m w) (map (filed m) es)
+    pub put-named : (es : List Global) → map (filed m) (after es (position named es)) ≡ put (Val.identifier n) (meaning m w) (map (filed m) es)
     unfolding put equal_val
     put-named [] = refl
     put-named (e ∷ es) =
