@@ -86,8 +86,8 @@ impl<'c, 'r, 'm, 'o> Run<'c, 'r, 'm, 'o> {
         Ok(())
     }
 
-    // A run that stands in lent memory with these numbers. Numbers that no run has there are refused, and nothing is written:
-    // where `room_for` has passed nothing is refused.
+    // A run that stands in lent memory with these numbers. Numbers that no run has there are refused, and nothing is written.
+    // A caller who keeps his globals where that is so asks `room_for` first.
     pub fn resume(
         calls: Calls,
         callers: &'c mut [Frame],
