@@ -31,6 +31,15 @@ split_by f b bs false e s =
       stopping = rw p e;
     }
 
+within_by : (f : ℕ → Bool) (b : ℕ) (bs : List ℕ) (t : Bool) → f b ≡ t → length (take_while f bs) ≤ length bs → length (take_while f (b ∷ bs)) ≤ length (b ∷ bs)
+within_by f b bs true e again = rw (front-passes f b bs e) (omega arith)
+within_by f b bs false e again = rw (front-stops f b bs e) (omega arith)
+
+-- a front is no longer than what it is the front of
+pub front-within : (f : ℕ → Bool) (bs : List ℕ) → length (take_while f bs) ≤ length bs
+front-within f [] = omega arith
+front-within f (b ∷ bs) = within_by f b bs (f b) refl (front-within f bs)
+
 pub split : (f : ℕ → Bool) (bs : List ℕ) → Split f bs
 split f [] = record { whole = refl; passing = tt; stopping = tt }
 split f (b ∷ bs) = split_by f b bs (f b) refl (split f bs)
