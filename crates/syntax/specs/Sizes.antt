@@ -15,7 +15,7 @@ use Rattle.syntax.specs.declared.read.Given.{Given}
 
 -- the size of what stands around a part
 abbrev pub around : Size → Size
-around s = record { depth = min 255 (s.depth + 1); small = s.small }
+around s = record { depth = min 17 (s.depth + 1); small = s.small }
 
 -- the size of two parts side by side
 abbrev pub side_by_side : Size → Size → Size
@@ -42,17 +42,17 @@ pub record SmallList (es : Args ℕ) : Type 0 where
   pub few : count es ≤ argument_limit
   pub each : SmallWithin es
 
--- the size is the expression's, whose depth is counted as far as a byte goes
+-- the size is the expression's; the depth 17 stands for all that is deeper than 16
 pub record Sized (s : Size) (e : Expr ℕ) : Type 0 where
-  pub deep : s.depth ≡ min 255 (depth e)
+  pub deep : s.depth ≡ min 17 (depth e)
   pub small : Decides s.small (Small e)
 
 pub record SizedWithin (s : Size) (es : Args ℕ) : Type 0 where
-  pub deep : s.depth ≡ min 255 (arg_depth es)
+  pub deep : s.depth ≡ min 17 (arg_depth es)
   pub small : Decides s.small (SmallWithin es)
 
 pub record SizedList (s : Size) (es : Args ℕ) : Type 0 where
-  pub deep : s.depth ≡ min 255 (arg_depth es)
+  pub deep : s.depth ≡ min 17 (arg_depth es)
   pub small : Decides s.small (SmallList es)
 
 -- the memory that has nothing but the text

@@ -24,10 +24,13 @@ pub fn own(from: u16, to: u16) -> Span
 }
 
 impl Text<'_> {
-    // Learns a name of the text, if it is not among the names. With room for one more than a body may have, a full stack has too many, whatever is not learnt.
+    // Learns a name of the text, if it is not among the names. With room for one more than a body may have, a full stack has too many, whatever is not learnt: nothing is looked for then.
     pub fn learn(self, names: &mut Stack<'_, Span>, name: Span)
         ensures one_more_if_new { Learns self.entry.bytes.now names.old names.new (bytes_of (lone self.entry.bytes.now) name) }
     {
+        if names.is_full() {
+            return;
+        }
         let bytes = Bytes {
             fixed: b"",
             texts: self.bytes,

@@ -5,7 +5,7 @@ ghost use Rattle.nodes.specs.declared.refusal.Refusal.TheVariants.{Unexpected, O
 use nodes::node::{Arguments, Method, Parameters};
 use nodes::refusal::Refusal;
 
-// What the limits ask of an expression: its depth, as far as a byte counts, and whether its literals and its lists of arguments are small enough.
+// What the limits ask of an expression: its depth, with 17 for all that is deeper than 16, and whether its literals and its lists of arguments are small enough.
 // (No Option of the depth: both are joined part by part, each in its own way.)
 #[derive(Clone, Copy)]
 pub struct Size {

@@ -3,23 +3,31 @@ ghost use Rattle.std.specs.Prelude.{◌≡◌, ◌<◌, true, [], ◌∷◌};
 ghost use Rattle.syntax.specs.Sizes.{around, side_by_side};
 ghost use Rattle.syntax.specs.Parsing.{With, Closed};
 
+use crate::limits::DEPTH;
 use crate::read::{Given, Got, Size};
 use nodes::node::{ARGUMENTS, Arguments};
 
 impl Size {
+    // Of what has no part: one deep, or nothing.
+    pub fn new(depth: u8, small: bool) -> Size
+        ensures { result ≡ record { depth = depth; small = small } }
+    {
+        Size { depth, small }
+    }
+
     // Of an expression of one token.
     pub fn leaf(small: bool) -> Size
         ensures one_deep { result ≡ record { depth = 1; small = small } }
     {
-        Size { depth: 1, small }
+        Size::new(1, small)
     }
 
-    // Of what stands around it.
+    // Of what stands around it; 17 stands for all that is deeper than 16.
     pub fn deeper(self) -> Size
         ensures { result ≡ around self }
     {
         Size {
-            depth: self.depth.saturating_add(1),
+            depth: self.depth.min(DEPTH) + 1,
             small: self.small,
         }
     }
@@ -42,10 +50,7 @@ impl Given {
         Given {
             to,
             arguments: Arguments::default(),
-            size: Size {
-                depth: 0,
-                small: true,
-            },
+            size: Size::new(0, true),
         }
     }
 
@@ -69,10 +74,7 @@ impl Given {
         Given {
             to,
             arguments: self.arguments,
-            size: Size {
-                depth: self.size.depth,
-                small: few && self.size.small,
-            },
+            size: Size::new(self.size.depth, few && self.size.small),
         }
     }
 }
