@@ -18,7 +18,7 @@ use Rattle.syntax.specs.Sizes.{lone, Knows, Learns}
 use Rattle.syntax.specs.Parsing.{named, LearnsTarget}
 use Rattle.syntax.proofs.Nodes.{word-from}
 
-known_at : (ns : List (List ℕ)) (i : ℕ) (x : List ℕ) → i < length ns → get_or ns i [] ≡ x → known ns x ≡ true
+pub known_at : (ns : List (List ℕ)) (i : ℕ) (x : List ℕ) → i < length ns → get_or ns i [] ≡ x → known ns x ≡ true
 known_at [] i x h e = absurd (omega arith)
 known_at (y ∷ ns) zero x h e = ap (λ b. b || known ns x) ((bytes_eq-Decides y x).1 e)
 known_at (y ∷ ns) (suc i) x h e = or_right (bytes_eq y x) (known ns x) (known_at ns i x (omega arith) e)
@@ -27,16 +27,20 @@ refuted : (b : Bool) → (b ≡ true → ⊥) → b ≡ false
 refuted true h = absurd (h refl)
 refuted false h = refl
 
-known-nowhere : (ns : List (List ℕ)) (x : List ℕ) → ((i : ℕ) → i < length ns → get_or ns i [] ≡ x → ⊥) → known ns x ≡ false
+pub known-nowhere : (ns : List (List ℕ)) (x : List ℕ) → ((i : ℕ) → i < length ns → get_or ns i [] ≡ x → ⊥) → known ns x ≡ false
 known-nowhere [] x h = refl
 known-nowhere (y ∷ ns) x h =
     or_from (bytes_eq y x) (known ns x) (refuted (bytes_eq y x) (λ e. h 0 (omega arith) ((bytes_eq-Decides y x).0 e))) (known-nowhere ns x (λ i lt e. h (suc i) (omega arith) e))
 
-learn-known : (ns : List (List ℕ)) (x : List ℕ) → known ns x ≡ true → learn ns x ≡ ns
+pub learn-known : (ns : List (List ℕ)) (x : List ℕ) → known ns x ≡ true → learn ns x ≡ ns
 learn-known ns x e = cond-true (known ns x) _ _ e
 
-learn-new : (ns : List (List ℕ)) (x : List ℕ) → known ns x ≡ false → learn ns x ≡ ns ++ (x ∷ [])
+pub learn-new : (ns : List (List ℕ)) (x : List ℕ) → known ns x ≡ false → learn ns x ≡ ns ++ (x ∷ [])
 learn-new ns x e = cond-false (known ns x) _ _ e
+
+pub learn-longer : (ns : List (List ℕ)) (x : List ℕ) → length ns ≤ length (learn ns x)
+learn-longer ns x =
+    ⊎_elim (λ e. let l = ap length (learn-known ns x e) in omega arith) (λ e. let l = ap length (learn-new ns x e) in let p = length_push ns x in omega arith) (cases_Bool (known ns x))
 
 -- names are learnt in their order
 pub learn-all-more : (ns ps : List (List ℕ)) (x : List ℕ) → learn_all ns (ps ++ (x ∷ [])) ≡ learn (learn_all ns ps) x
@@ -52,12 +56,16 @@ take-learn n ns x h =
 pub no_names : {text : List ℕ} {us : Stack Span} → room us ≡ 17 → held us ≡ [] → Knows text us []
 no_names {text} h e = record { room = h; words = ap (map (bytes_of (lone text))) e }
 
--- a name is learnt by where it lies
+-- the bytes of a name in its own text
+pub name-bytes : (text : List ℕ) (s : Span) (from to : ℕ) → from < 2 ^ 16 → from ≤ to → to ≤ length text → s ≡ span_of 0 from to → bytes_of (lone text) s ≡ slice text from to
+name-bytes text s from to h le g e =
+    ap (bytes_of (lone text)) e
+    ∙ (word-from (lone text) text 0 from to (omega arith) (λ i lt. ap (λ z. get_or text z 0) (let e : 0 + i ≡ i = omega arith in e)) le g).1
+
+-- so a name is learnt by where it lies
 pub learnt-there : {text : List ℕ} {us vs : Stack Span} (s : Span) (from to : ℕ) → from < 2 ^ 16 → from ≤ to → to ≤ length text → s ≡ span_of 0 from to
     → Learns text us vs (bytes_of (lone text) s) → Learns text us vs (slice text from to)
-learnt-there {text} {us} {vs} s from to h le g e l =
-    subst (Learns text us vs)
-    (ap (bytes_of (lone text)) e ∙ (word-from (lone text) text 0 from to (omega arith) (λ i lt. ap (λ z. get_or text z 0) (let e : 0 + i ≡ i = omega arith in e)) le g).1) l
+learnt-there {text} {us} {vs} s from to h le g e l = subst (Learns text us vs) (name-bytes text s from to h le g e) l
 
 module _ {text : List ℕ} {us : Stack Span} {xs : List Span} (own : Span) (is : xs ≡ held us) where
   -- a name that is among them

@@ -6,3 +6,4 @@ pub mod Classes
 pub mod Breaks
 pub mod Whole
 pub mod Ended
+pub mod LentApart

@@ -1,6 +1,7 @@
 // From a text to the one tree that it has, standing in a lent node table, or the refusal of it.
 #![tactic(auto)]
 
+pub mod apart;
 pub mod class;
 pub mod expression;
 pub mod leaves;
