@@ -729,22 +729,26 @@ pub some_same : {a b : Target} → ◌≡◌ {A = Option Target} (some a) (some 
 some_same e = cc
 
 -- an expression of one token
-pub leaf-made : {text : List ℕ} {base p f q : ℕ} {xs zs : Table Node} {us vs : Stack Span} {x : Form} {size : Size} {g : Got} {t : Terminal} (T : Expr ℕ) → Sees text p t f q
+pub leaf-read : {text : List ℕ} {p f q : ℕ} {t : Terminal} (T : Expr ℕ) → Sees text p t f q
     → level (forget T) ≤ 1 → ((k : Context) → step (State.want k) t ≡ some (State.have (forget T) k)) → ((ns : List ℕ) → annotate 0 (forget T) (f ∷ ns) ≡ record { tree = T; rest = ns })
-    → ((u : Target) → target_of (forget T) ≡ some u → t ≡ target_token u) → f ≡ note_of T → Put xs zs (record { place = f; form = x }) q size g
-    → nodes T ≡ 1 → Sized size T → ((ns : List (List ℕ)) → Knows text us ns → Knows text vs (names_after ns T))
-    → ((mem : Memory) → Lies mem text base → at zs.items.now xs.count ≡ record { place = f; form = x } → TreeAt mem zs.items.now xs.count T) → Parsed 1 text base p xs zs us vs g
-leaf-made {text} {base} {p} {f} {q} {xs} T s low go noted plain place put one sized named held =
+    → ((u : Target) → target_of (forget T) ≡ some u → t ≡ target_token u) → Reads 1 text p q T
+leaf-read {text} {p} {f} {q} T s low go noted plain =
     let done = on (λ k. State.have (forget T) k) here s go in
-    made T put
-    (record {
+    record {
       low = low;
       way = λ k h. done.way k;
       noted = ap (annotate 0 (forget T)) (places-see s) ∙ noted (places text q);
       plain = λ u i. terms-see s ∙ ap (λ z. z ∷ terms text q) (plain u i);
       ahead = done.ahead;
-    })
-    place (kept-all xs) (omega arith) (omega (arith, one)) sized named (λ mem lies kz lt is. held mem lies is)
+    }
+
+pub leaf-made : {text : List ℕ} {base p f q : ℕ} {xs zs : Table Node} {us vs : Stack Span} {x : Form} {size : Size} {g : Got} {t : Terminal} (T : Expr ℕ) → Sees text p t f q
+    → level (forget T) ≤ 1 → ((k : Context) → step (State.want k) t ≡ some (State.have (forget T) k)) → ((ns : List ℕ) → annotate 0 (forget T) (f ∷ ns) ≡ record { tree = T; rest = ns })
+    → ((u : Target) → target_of (forget T) ≡ some u → t ≡ target_token u) → f ≡ note_of T → Put xs zs (record { place = f; form = x }) q size g
+    → nodes T ≡ 1 → Sized size T → ((ns : List (List ℕ)) → Knows text us ns → Knows text vs (names_after ns T))
+    → ((mem : Memory) → Lies mem text base → at zs.items.now xs.count ≡ record { place = f; form = x } → TreeAt mem zs.items.now xs.count T) → Parsed 1 text base p xs zs us vs g
+leaf-made {xs = xs} T s low go noted plain place put one sized named held =
+    made T put (leaf-read T s low go noted plain) place (kept-all xs) (omega arith) (omega (arith, one)) sized named (λ mem lies kz lt is. held mem lies is)
 
 -- where no expression begins
 pub end-lost : {text : List ℕ} {p : ℕ} → left text p ≡ [] → Refused 1 text p (length text)

@@ -1,15 +1,28 @@
 -- Where a table and the names are lent apart.
-use Rattle.std.proofs.Common.{◌≡◌, ℕ, ◌+◌, ◌^◌, ◌<◌, ◌≤◌, min, Bool, true, false, List, [], ◌∷◌, ◌++◌, map, length, get_or, take, set, Some, None, Option, is_some, sym, refl, ap, ◌∙◌, subst, ap₂, arith}
-use Rattle.std.proofs.lemmas.List.{take_more_set, map_push, length_push, length-map, length-set, get_or-map}
+use Rattle.std.proofs.Common.{◌≡◌, ℕ, ◌+◌, ◌^◌, ◌<◌, ◌≤◌, ◌≢◌, min, Bool, true, false, List, [], ◌∷◌, ◌++◌, map, length, get_or, take, set, Some, None, Option, is_some, sym, refl, ap, ◌∙◌, subst, ap₂, arith}
+use mathlib.Core.Option.{some}
+use Rattle.std.proofs.lemmas.List.{take_more_set, map_push, length_push, length-map, length-set, get_or-map, get_or-set_same, get_or-set_other}
+use Rattle.lexer.specs.Token.{Terminal}
 use Rattle.text.specs.declared.span.Span.{Span}
 use Rattle.text.specs.First.{First}
-use Rattle.text.specs.Memory.{bytes_of}
-use Rattle.grammar.specs.Measure.{known}
-use Rattle.nodes.specs.Trees.{span_of}
+use Rattle.text.specs.Memory.{Memory, bytes_of}
+use Rattle.grammar.specs.Tree.{Expr}
+use Rattle.grammar.specs.Grammar.{level}
+use Rattle.grammar.specs.Machine.{Target, target_of, Context, State, step}
+use Rattle.grammar.specs.Notes.{note_of, forget, annotate}
+use Rattle.grammar.specs.Measure.{nodes, known, names_after}
+use Rattle.nodes.specs.declared.node.Node.{Node}
+use Rattle.nodes.specs.declared.node.Form.{Form}
+use Rattle.nodes.specs.Trees.{Lies, span_of, at, TreeAt}
+use Rattle.syntax.specs.declared.apart.Got.{Got}
+use Rattle.syntax.specs.declared.read.Size.{Size}
 use Rattle.syntax.specs.Sight.{slice}
-use Rattle.syntax.specs.Sizes.{lone}
-use Rattle.syntax.specs.LentApart.{Knows, Learns, named, LearnsTarget}
+use Rattle.syntax.specs.Sizes.{lone, Sized}
+use Rattle.syntax.specs.Parsing.{target_token, Reads}
+use Rattle.syntax.specs.LentApart.{Knows, Learns, named, LearnsTarget, Kept, Parsed, Put}
 use Rattle.syntax.proofs.Naming.{known_at, known-nowhere, learn-known, learn-new, learn-longer, name-bytes}
+use Rattle.syntax.proofs.Reading.{Sees}
+use Rattle.syntax.proofs.Forms.{leaf-read}
 
 -- a name is learnt by where it lies
 pub learnt-there : {text : List ℕ} {us vs : List Span} {m r : ℕ} (s : Span) (from to : ℕ) → from < 2 ^ 16 → from ≤ to → to ≤ length text → s ≡ span_of 0 from to
@@ -77,3 +90,38 @@ target-field false x e = let z : ◌≡◌ {A = ℕ} 0 1 = cc in absurd (omega a
 pub target-local : {text : List ℕ} {us vs : List Span} {m r : ℕ} (b : Bool) (x : List ℕ) → b ≡ false → Learns text us vs m x r → LearnsTarget text us vs m (named b x) r
 target-local false x e l = record { learns = l.learns }
 target-local true x e l = let z : ◌≡◌ {A = ℕ} 0 1 = cc in absurd (omega arith)
+
+pub kept_put : {xs ys : List Node} {n m : ℕ} {x : Node} {to : ℕ} {size : Size} {g : Got} → Put xs ys n m x to size g → Kept xs ys n
+kept_put {xs} {ys} {n} {m} {x} put =
+    record { below = λ j i. let ne : j ≢ n = omega arith in ap (λ z. at z j) put.table ∙ get_or-set_other xs n j x _ ne }
+
+pub put-at : {xs ys : List Node} {n m : ℕ} {x : Node} {to : ℕ} {size : Size} {g : Got} → Put xs ys n m x to size g → n < length xs → at ys n ≡ x
+put-at {xs} {ys} {n} {m} {x} put h = ap (λ z. at z n) put.table ∙ get_or-set_same xs n x _ h
+
+pub put-length : {xs ys : List Node} {n m : ℕ} {x : Node} {to : ℕ} {size : Size} {g : Got} → Put xs ys n m x to size g → length ys ≡ length xs
+put-length {xs} {ys} {n} {m} {x} put = ap length put.table ∙ length-set xs n x
+
+-- an expression of one token, whose node was put
+pub leaf-made : {text : List ℕ} {base p f q : ℕ} {xs zs : List Node} {us vs : List Span} {n m m' : ℕ} {x : Form} {size : Size} {g : Got} {t : Terminal} (T : Expr ℕ) → Sees text p t f q
+    → level (forget T) ≤ 1 → ((k : Context) → step (State.want k) t ≡ some (State.have (forget T) k)) → ((ns : List ℕ) → annotate 0 (forget T) (f ∷ ns) ≡ record { tree = T; rest = ns })
+    → ((u : Target) → target_of (forget T) ≡ some u → t ≡ target_token u) → f ≡ note_of T → Put xs zs n m' (record { place = f; form = x }) q size g
+    → nodes T ≡ 1 → Sized size T → ((ns : List (List ℕ)) → Knows text us m ns → Knows text vs m' (names_after ns T))
+    → ((mem : Memory) → Lies mem text base → at zs n ≡ record { place = f; form = x } → TreeAt mem zs n T) → Parsed 1 text base p xs zs us vs n m g
+leaf-made {text} {base} {p} {f} {q} {xs} {zs} {us} {vs} {n} {m} {m'} T s low go noted plain place put one sized named held =
+    let len = put-length put in
+    record {
+      tree = T;
+      reads = subst (λ z. Reads 1 text p z T) (sym put.to_is) (leaf-read T s low go noted plain);
+      built = record {
+        place = put.place ∙ place;
+        kept = kept_put put;
+        held = λ room mem lies.
+            let lt : n < length xs = omega (arith, put.counted) in
+            subst (λ i. TreeAt mem zs i T) (sym put.root) (held mem lies (put-at put lt));
+      };
+      measured = record {
+        counted = omega (arith, put.counted, one);
+        sized = subst (λ z. Sized z T) (sym put.size_is) sized;
+        named = λ ns k. subst (λ z. Knows text vs z (names_after ns T)) (sym put.known) (named ns k);
+      };
+    }
