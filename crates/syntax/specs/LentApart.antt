@@ -5,13 +5,15 @@ use Rattle.text.specs.Memory.{Memory, bytes_of}
 use Rattle.grammar.specs.Tree.{Expr}
 use Rattle.grammar.specs.Limits.{name_limit}
 use Rattle.grammar.specs.Machine.{Target}
-use Rattle.grammar.specs.Notes.{note_of}
+use Rattle.grammar.specs.Following.{Calm, Last}
+use Rattle.grammar.specs.Notes.{note_of, forget}
 use Rattle.grammar.specs.Measure.{nodes, learn, names_after}
 use Rattle.nodes.specs.declared.node.Node.{Node}
 use Rattle.nodes.specs.Trees.{Lies, at, TreeAt}
 use Rattle.syntax.specs.declared.apart.Target as declared
 use Rattle.syntax.specs.declared.apart.Got.{Got}
 use Rattle.syntax.specs.declared.read.Size.{Size}
+use Rattle.syntax.specs.Left.{terms}
 use Rattle.syntax.specs.Sight.{slice}
 use Rattle.syntax.specs.Sizes.{lone, Sized}
 use Rattle.syntax.specs.Parsing.{learn_target, Reads}
@@ -59,6 +61,12 @@ pub record Parsed (l : ℕ) (text : List ℕ) (base p : ℕ) (xs ys : List Node)
   pub reads : Reads l text p g.to tree
   pub built : Built text base xs ys n g tree
   pub measured : Measured text us vs n m g tree
+
+-- a sequence, and no further item follows
+pub record Sequence (text : List ℕ) (base p : ℕ) (xs ys : List Node) (us vs : List Span) (n m : ℕ) (g : Got) : Type 0 where
+  pub parsed : Parsed 4 text base p xs ys us vs n m g
+  pub calm : Calm (forget parsed.tree) (terms text g.to)
+  pub last : Last (terms text g.to)
 
 -- the place moves on, by at least as much as the count of nodes; the root is a new node
 pub record Moves (text : List ℕ) (p n : ℕ) (g : Got) : Type 0 where

@@ -1,21 +1,23 @@
 // The parser's functions for callers that lend a table and names apart, each beside the number of what stands in it; the text of a name or a leaf may have any length.
-ghost use Rattle.std.specs.Prelude.{◌≡◌, ◌+◌, ◌<◌, ◌≤◌, length, slice_set};
+ghost use Rattle.std.specs.Prelude.{◌≡◌, ◌+◌, ◌<◌, ◌≤◌, length, slice_set, IfOk, MatchResult};
 ghost use Rattle.text.specs.Memory.{bytes_of};
 ghost use Rattle.nodes.specs.Trees.{span_of};
 ghost use Rattle.syntax.specs.declared.sight.Sort.TheVariants as sort;
 ghost use Rattle.syntax.specs.Left.{left};
 ghost use Rattle.syntax.specs.Sight.{shown};
 ghost use Rattle.syntax.specs.Sizes.{lone};
-ghost use Rattle.syntax.specs.LentApart.{meant, Learns, LearnsTarget, Parsed, Moves, Put};
+ghost use Rattle.syntax.specs.Parsing.{Refused};
+ghost use Rattle.syntax.specs.LentApart.{meant, Learns, LearnsTarget, Parsed, Sequence, Moves, Put};
 
 use crate::limits::{NAMES, STRING};
 use crate::names::own;
 use crate::number::value;
-use crate::read::Size;
+use crate::read::{Size, Stuck};
 use crate::sight::Sort;
 use crate::source::Text;
 use crate::table::{self, Table};
 use nodes::node::{Form, Node};
+use stack::Stack;
 use text::search::first_equal;
 use text::span::{Bytes, Span};
 
@@ -206,4 +208,40 @@ pub fn string(
         form: Form::Str(word),
     };
     put(nodes, n, m, node, sight.to, Size::leaf(word.len <= STRING))
+}
+
+// Items parted by `;`. The names are read and written on a stack of its own, which has room for one more than is lent.
+pub fn sequence(
+    text: &[u8],
+    base: u16,
+    at: u16,
+    nodes: &mut [Node],
+    names: &mut [Span],
+    n: u16,
+    m: u8,
+) -> Result<Got, Stuck>
+    requires short { length text.now ≤ 4096 }
+    requires inside { at ≤ length text.now }
+    requires few { n ≤ at }
+    ensures moves { IfOk result (λ g. Moves text.now at n g) }
+    ensures reads { MatchResult result (λ g. Sequence text.now base at nodes.old nodes.new names.old names.new n m g) (λ s. Refused 4 text.now at s.0) }
+{
+    let lent = names.len().min(NAMES);
+    let mut spans = [Span::default(); NAMES + 1];
+    spans[..lent].copy_from_slice(&names[..lent]);
+    let mut known = Stack::resume(&mut spans, usize::from(m));
+    let mut nodes = Table::resume(nodes, n);
+    let text = Text { bytes: text, base };
+    let got = text.sequence(at, &mut nodes, &mut known)?;
+    let count = known.len();
+    let kept = count.min(lent);
+    names[..kept].copy_from_slice(&known.items()[..kept]);
+    Ok(Got {
+        to: got.to,
+        nodes: nodes.count(),
+        names: count.min(NAMES + 1) as u8,
+        root: got.root,
+        place: got.place,
+        size: got.size,
+    })
 }

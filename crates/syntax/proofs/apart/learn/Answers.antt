@@ -1,4 +1,4 @@
-use Rattle.std.proofs.Common.{sym, refl, ◌∙◌, arith}
+use Rattle.std.proofs.Common.{sym, ◌∙◌, arith}
 use Rattle.std.proofs.lemmas.List.{set_past}
 use Rattle.syntax.proofs.LentApart.{learnt-found, learnt-unfound}
 use Rattle.syntax.proofs.apart.learn.Goals as goal
