@@ -8,12 +8,14 @@ use Rattle.text.specs.Meanings.{length-bytes_of, get_or-bytes_of}
 use Rattle.grammar.specs.Tree.{Expr, Args}
 use Rattle.grammar.specs.Measure.{count}
 use Rattle.nodes.specs.declared.node.Node.{Node}
+use Rattle.stack.specs.declared.Stack.{Stack}
 use Rattle.syntax.specs.declared.table.Table.{Table}
 use Rattle.syntax.specs.declared.read.Got.{Got}
 use Rattle.syntax.specs.declared.read.Size.{Size}
 use Rattle.syntax.specs.Sight.{slice}
 use Rattle.nodes.specs.Trees.{Lies, span_of, WordAt, at, TreeAt, ArgsAt}
-use Rattle.syntax.specs.Parsing.{Kept, Put}
+use Rattle.syntax.specs.Sizes.{Remains}
+use Rattle.syntax.specs.Parsing.{Kept, Lent, Put}
 
 pub kept-all : (xs : Table Node) → Kept xs xs
 kept-all xs = record { below = λ j i. refl; room = refl; lender = refl }
@@ -28,6 +30,23 @@ kept_put {xs} {ys} {x} put =
       room = ap length put.items ∙ length-set xs.items.now xs.count x;
       lender = put.lender;
     }
+
+-- what stays lent
+pub lent-same : (xs : Table Node) (us : Stack Span) → Lent xs xs us us
+lent-same xs us = record { lender = refl; long = refl; names = record { lender = refl; room = refl } }
+
+pub lent-names : (xs : Table Node) {us vs : Stack Span} → Remains us vs → Lent xs xs us vs
+lent-names xs r = record { lender = refl; long = refl; names = r }
+
+pub lent_put : {xs ys : Table Node} {x : Node} {to : ℕ} {size : Size} {g : Got} (us : Stack Span) → Put xs ys x to size g → Lent xs ys us us
+lent_put us put = let k = kept_put put in record { lender = k.lender; long = k.room; names = record { lender = refl; room = refl } }
+
+pub lent_then : {xs ys zs : Table Node} {us vs ws : Stack Span} → Lent xs ys us vs → Lent ys zs vs ws → Lent xs zs us ws
+lent_then a b = record {
+  lender = b.lender ∙ a.lender;
+  long = b.long ∙ a.long;
+  names = let n = a.names in let m = b.names in record { lender = m.lender ∙ n.lender; room = m.room ∙ n.room };
+}
 
 pub put-at : {xs ys : Table Node} {x : Node} {to : ℕ} {size : Size} {g : Got} → Put xs ys x to size g → xs.count < length xs.items.now → at ys.items.now xs.count ≡ x
 put-at {xs} {ys} {x} put h = ap (λ z. at z xs.count) put.items ∙ get_or-set_same xs.items.now xs.count x _ h

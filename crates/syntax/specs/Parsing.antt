@@ -26,7 +26,7 @@ use Rattle.syntax.specs.declared.read.Target as declared
 use Rattle.syntax.specs.Left.{left, terms, places}
 use Rattle.syntax.specs.Sight.{slice}
 use Rattle.nodes.specs.Trees.{Lies, at, TreeAt, ArgsAt}
-use Rattle.syntax.specs.Sizes.{side_by_side, of_list, Knows, Measured, MeasuredWithin, MeasuredList}
+use Rattle.syntax.specs.Sizes.{side_by_side, of_list, Remains, Knows, Measured, MeasuredWithin, MeasuredList}
 
 -- q is behind some of the tokens from p on
 pub record Ahead (text : List ℕ) (p q : ℕ) : Type 0 where
@@ -174,6 +174,12 @@ pub record RefusedArgs (text : List ℕ) (p e : ℕ) : Type 0 where
   pub ahead : Ahead text p from
   pub place : e ≡ first (length text) (places text from)
   pub way : (f : Callee) (k : Context) → run (terms text p) (State.opened f k) ≡ Outcome.refused (terms text from)
+
+-- what was lent stays its lender's, and as long as it was
+pub record Lent (xs ys : Table Node) (us vs : Stack Span) : Type 0 where
+  pub lender : ys.items.ghost_name ≡ xs.items.ghost_name
+  pub long : length ys.items.now ≡ length xs.items.now
+  pub names : Remains us vs
 
 -- the place moves on, by at least as much as the count of nodes; the root is a new node
 pub record Moves (text : List ℕ) (p : ℕ) (xs ys : Table Node) (g : Got) : Type 0 where

@@ -64,6 +64,11 @@ pub record Knows (text : List ℕ) (us : Stack Span) (ns : List (List ℕ)) : Ty
   pub room : room us ≡ name_limit + 1
   pub words : map (bytes_of (lone text)) (held us) ≡ take (name_limit + 1) ns
 
+-- the names' slice stays its lender's, and as long as it was
+pub record Remains (us vs : Stack Span) : Type 0 where
+  pub lender : vs.items.ghost_name ≡ us.items.ghost_name
+  pub room : room vs ≡ room us
+
 -- one more name was learnt
 pub record Learns (text : List ℕ) (us vs : Stack Span) (x : List ℕ) : Type 0 where
   pub learns : (ns : List (List ℕ)) → Knows text us ns → Knows text vs (learn ns x)

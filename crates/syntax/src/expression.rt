@@ -8,7 +8,7 @@ ghost use Rattle.grammar.specs.Notes.{first};
 ghost use Rattle.syntax.specs.Left.{left, terms, places};
 ghost use Rattle.syntax.specs.Sight.{shown, head_sort};
 ghost use Rattle.nodes.specs.Trees.{span_of};
-ghost use Rattle.syntax.specs.Parsing.{Writes, NoWrite, written_form, Parsed, Refused, Operand, Tested, Item, Sequence, Argued, RefusedArgs, Moves, MovesArgs, With, Closed};
+ghost use Rattle.syntax.specs.Parsing.{Writes, NoWrite, written_form, Parsed, Refused, Operand, Tested, Item, Sequence, Argued, RefusedArgs, Lent, Moves, MovesArgs, With, Closed};
 
 use crate::read::{Given, Got, Size, Stuck, Target, Variable};
 use crate::sight::{Sight, Sort};
@@ -44,6 +44,7 @@ impl Text<'_> {
         requires few { nodes.old.count ≤ at }
         ensures moves { IfOk result (λ g. Moves self.entry.bytes.now at nodes.old nodes.new g) }
         ensures reads { MatchResult result (λ g. Sequence self.entry.bytes.now self.entry.base at nodes.old nodes.new names.old names.new g) (λ s. Refused 4 self.entry.bytes.now at s.0) }
+        ensures lent { Lent nodes.old nodes.new names.old names.new }
     {
         let a = self.item(at, nodes, names)?;
         match self.after(a.to, Sort::Sign(Symbol::Semicolon)) {
@@ -71,6 +72,7 @@ impl Text<'_> {
         requires few { nodes.old.count ≤ at }
         ensures moves { IfOk result (λ g. Moves self.entry.bytes.now at nodes.old nodes.new g) }
         ensures reads { MatchResult result (λ g. Item self.entry.bytes.now self.entry.base at nodes.old nodes.new names.old names.new g) (λ s. Refused 3 self.entry.bytes.now at s.0) }
+        ensures lent { Lent nodes.old nodes.new names.old names.new }
     {
         match self.target_ahead(at) {
             Some(target) => {
@@ -98,6 +100,7 @@ impl Text<'_> {
         requires few { nodes.old.count ≤ at }
         ensures moves { IfOk result (λ g. Moves self.entry.bytes.now at nodes.old nodes.new g) }
         ensures reads { MatchResult result (λ g. Tested self.entry.bytes.now self.entry.base at nodes.old nodes.new names.old names.new g) (λ s. Refused 2 self.entry.bytes.now at s.0) }
+        ensures lent { Lent nodes.old nodes.new names.old names.new }
     {
         let mut g = self.operand(at, nodes, names)?;
         while let Some(to) = self.after(g.to, Sort::Word(Keyword::InstanceOf)) {
@@ -123,6 +126,7 @@ impl Text<'_> {
         requires few { nodes.old.count ≤ at }
         ensures moves { IfOk result (λ g. Moves self.entry.bytes.now at nodes.old nodes.new g) }
         ensures reads { MatchResult result (λ g. Operand self.entry.bytes.now self.entry.base at nodes.old nodes.new names.old names.new g) (λ s. Refused 1 self.entry.bytes.now at s.0) }
+        ensures lent { Lent nodes.old nodes.new names.old names.new }
     {
         let mut g = self.primary(at, nodes, names)?;
         while let Some(to) = self.after(g.to, Sort::Sign(Symbol::Dot)) {
@@ -150,6 +154,7 @@ impl Text<'_> {
         requires few { nodes.old.count ≤ at }
         ensures moves { IfOk result (λ g. Moves self.entry.bytes.now at nodes.old nodes.new g) }
         ensures reads { MatchResult result (λ g. Parsed 1 self.entry.bytes.now self.entry.base at nodes.old nodes.new names.old names.new g) (λ s. Refused 1 self.entry.bytes.now at s.0) }
+        ensures lent { Lent nodes.old nodes.new names.old names.new }
     {
         let Some(sight) = self.look(at) else {
             return Err(Stuck(self.bytes.len() as u16));
@@ -177,6 +182,7 @@ impl Text<'_> {
         requires inside { sight.to ≤ length self.bytes.now }
         ensures moves { IfOk result (λ g. Moves self.entry.bytes.now sight.from nodes.old nodes.new g) }
         ensures reads { (p : ℕ) → left self.entry.bytes.now p ≡ shown self.entry.bytes.now (sort.Word keyword) sight.from sight.to → MatchResult result (λ g. Parsed 1 self.entry.bytes.now self.entry.base p nodes.old nodes.new names.old names.new g) (λ s. Refused 1 self.entry.bytes.now p s.0) }
+        ensures lent { Lent nodes.old nodes.new names.old names.new }
     {
         match keyword {
             Keyword::If => self.conditional(sight, nodes, names),
@@ -200,6 +206,7 @@ impl Text<'_> {
         requires inside { sight.to ≤ length self.bytes.now }
         ensures moves { IfOk result (λ g. Moves self.entry.bytes.now sight.from nodes.old nodes.new g) }
         ensures reads { (p : ℕ) → left self.entry.bytes.now p ≡ shown self.entry.bytes.now (sort.Word word.If) sight.from sight.to → MatchResult result (λ g. Parsed 1 self.entry.bytes.now self.entry.base p nodes.old nodes.new names.old names.new g) (λ s. Refused 1 self.entry.bytes.now p s.0) }
+        ensures lent { Lent nodes.old nodes.new names.old names.new }
     {
         let a = self.sequence(sight.to, nodes, names)?;
         let to = self.expect(a.to, Sort::Word(Keyword::Then))?;
@@ -231,6 +238,7 @@ impl Text<'_> {
         requires inside { sight.to ≤ length self.bytes.now }
         ensures moves { IfOk result (λ g. Moves self.entry.bytes.now sight.from nodes.old nodes.new g) }
         ensures reads { (p : ℕ) → left self.entry.bytes.now p ≡ shown self.entry.bytes.now (sort.Word word.While) sight.from sight.to → MatchResult result (λ g. Parsed 1 self.entry.bytes.now self.entry.base p nodes.old nodes.new names.old names.new g) (λ s. Refused 1 self.entry.bytes.now p s.0) }
+        ensures lent { Lent nodes.old nodes.new names.old names.new }
     {
         let a = self.sequence(sight.to, nodes, names)?;
         let to = self.expect(a.to, Sort::Word(Keyword::Do))?;
@@ -255,6 +263,7 @@ impl Text<'_> {
         requires inside { sight.to ≤ length self.bytes.now }
         ensures moves { IfOk result (λ g. Moves self.entry.bytes.now sight.from nodes.old nodes.new g) }
         ensures reads { (p : ℕ) → left self.entry.bytes.now p ≡ shown self.entry.bytes.now (sort.Word word.New) sight.from sight.to → MatchResult result (λ g. Parsed 1 self.entry.bytes.now self.entry.base p nodes.old nodes.new names.old names.new g) (λ s. Refused 1 self.entry.bytes.now p s.0) }
+        ensures lent { Lent nodes.old nodes.new names.old names.new }
     {
         let class = self.name(sight.to)?;
         let open = self.expect(class.to, Sort::Sign(Symbol::OpenParen))?;
@@ -278,6 +287,7 @@ impl Text<'_> {
         requires few { nodes.old.count ≤ at }
         ensures moves { IfOk result (λ g. MovesArgs self.entry.bytes.now at nodes.old nodes.new g) }
         ensures reads { MatchResult result (λ g. Argued self.entry.bytes.now self.entry.base at nodes.old nodes.new names.old names.new g) (λ s. RefusedArgs self.entry.bytes.now at s.0) }
+        ensures lent { Lent nodes.old nodes.new names.old names.new }
     {
         let none = Given::none(at);
         if let Some(to) = self.after(at, Sort::Sign(Symbol::CloseParen)) {

@@ -5,7 +5,7 @@ ghost use Rattle.stack.specs.declared.Stack.{Stack};
 ghost use Rattle.text.specs.declared.span.Span.{Span};
 ghost use Rattle.syntax.specs.Left.{left};
 ghost use Rattle.syntax.specs.Sight.{shown};
-ghost use Rattle.syntax.specs.Parsing.{Parsed, Moves};
+ghost use Rattle.syntax.specs.Parsing.{Parsed, Lent, Moves};
 
 use crate::limits::STRING;
 use crate::names::own;
@@ -30,6 +30,7 @@ impl Text<'_> {
         requires inside { sight.to ≤ length self.bytes.now }
         ensures moves { Moves self.entry.bytes.now sight.from nodes.old nodes.new result }
         ensures reads { (p : ℕ) → left self.entry.bytes.now p ≡ shown self.entry.bytes.now sort.Name sight.from sight.to → Parsed 1 self.entry.bytes.now self.entry.base p nodes.old nodes.new names.old names.new result }
+        ensures lent { Lent nodes.old nodes.new names.old names.new }
     {
         self.learn(names, own(sight.from, sight.to));
         leaf(nodes, sight, Form::Local(self.span(sight.from, sight.to)))
@@ -40,6 +41,7 @@ impl Text<'_> {
         requires inside { sight.to ≤ length self.bytes.now }
         ensures moves { Moves self.entry.bytes.now sight.from nodes.old nodes.new result }
         ensures reads { (p : ℕ) (us : Stack Span) → left self.entry.bytes.now p ≡ shown self.entry.bytes.now sort.Integer sight.from sight.to → Parsed 1 self.entry.bytes.now self.entry.base p nodes.old nodes.new us us result }
+        ensures lent { (us : Stack Span) → Lent nodes.old nodes.new us us }
     {
         let number = value(&self.bytes[sight.from as usize..sight.to as usize]);
         let node = Node {
@@ -55,6 +57,7 @@ impl Text<'_> {
         requires inside { sight.to ≤ length self.bytes.now }
         ensures moves { Moves self.entry.bytes.now sight.from nodes.old nodes.new result }
         ensures reads { (p : ℕ) (us : Stack Span) → left self.entry.bytes.now p ≡ shown self.entry.bytes.now sort.Field sight.from sight.to → Parsed 1 self.entry.bytes.now self.entry.base p nodes.old nodes.new us us result }
+        ensures lent { (us : Stack Span) → Lent nodes.old nodes.new us us }
     {
         leaf(nodes, sight, Form::Field(self.span(sight.from, sight.to)))
     }
@@ -66,6 +69,7 @@ impl Text<'_> {
         requires quoted { sight.from + 2 ≤ sight.to }
         ensures moves { Moves self.entry.bytes.now sight.from nodes.old nodes.new result }
         ensures reads { (p : ℕ) (us : Stack Span) → left self.entry.bytes.now p ≡ shown self.entry.bytes.now sort.Str sight.from sight.to → Parsed 1 self.entry.bytes.now self.entry.base p nodes.old nodes.new us us result }
+        ensures lent { (us : Stack Span) → Lent nodes.old nodes.new us us }
     {
         let word = self.span(sight.from + 1, sight.to - 1);
         let node = Node {

@@ -2,7 +2,7 @@
 ghost use Rattle.std.specs.Prelude.{◌≡◌, ◌+◌, ◌-◌, ◌%◌, ◌^◌, ◌≤◌, length};
 ghost use Rattle.text.specs.Memory.{bytes_of};
 ghost use Rattle.nodes.specs.Trees.{span_of};
-ghost use Rattle.syntax.specs.Sizes.{lone, Learns};
+ghost use Rattle.syntax.specs.Sizes.{lone, Remains, Learns};
 ghost use Rattle.syntax.specs.Parsing.{meant, LearnsTarget};
 
 use crate::read::{Target, Variable};
@@ -27,6 +27,7 @@ impl Text<'_> {
     // Learns a name of the text, if it is not among the names. With room for one more than a body may have, a full stack has too many, whatever is not learnt: nothing is looked for then.
     pub fn learn(self, names: &mut Stack<'_, Span>, name: Span)
         ensures one_more_if_new { Learns self.entry.bytes.now names.old names.new (bytes_of (lone self.entry.bytes.now) name) }
+        ensures lent { Remains names.old names.new }
     {
         if names.is_full() {
             return;
@@ -45,6 +46,7 @@ impl Text<'_> {
     pub fn learn_target(self, names: &mut Stack<'_, Span>, target: Target)
         requires { target.from ≤ target.to }
         ensures named_by_it { target.to ≤ length self.entry.bytes.now → LearnsTarget self.entry.bytes.now names.old names.new (meant self.entry.bytes.now target) }
+        ensures lent { Remains names.old names.new }
     {
         match target.variable {
             Variable::Local => self.learn(names, own(target.from, target.to)),

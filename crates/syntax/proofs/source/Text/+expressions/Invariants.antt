@@ -1,5 +1,5 @@
 use Rattle.std.proofs.Common.{◌+◌, ◌-◌, ◌*◌, length}
-use Rattle.syntax.specs.Parsing.{Moves, MovesArgs, Parsed, Testing, Arguing}
+use Rattle.syntax.specs.Parsing.{Lent, Moves, MovesArgs, Parsed, Testing, Arguing}
 use Rattle.syntax.proofs.source.Text.+expressions.Given as goal
 
 abbrev pub decreases-arguments : goal.decreases-arguments
@@ -34,21 +34,21 @@ decreases-test l = 9 * (length l.self.bytes.now - l.at) + 4
 
 abbrev pub invariant-arguments-loop-to : goal.invariant-arguments-loop-to
 invariant-arguments-loop-to l =
-    MovesArgs l.self.bytes.now l.at l.fn.nodes l.nodes l.given × Arguing l.self.bytes.now l.self.base l.at l.fn.nodes l.nodes l.fn.names l.names l.given
+    MovesArgs l.self.bytes.now l.at l.fn.nodes l.nodes l.given × Arguing l.self.bytes.now l.self.base l.at l.fn.nodes l.nodes l.fn.names l.names l.given × Lent l.fn.nodes l.nodes l.fn.names l.names
 
 abbrev pub decreases-arguments-loop-to : goal.decreases-arguments-loop-to
 decreases-arguments-loop-to l = length l.self.bytes.now - l.given.to
 
 abbrev pub invariant-operand-loop-to : goal.invariant-operand-loop-to
 invariant-operand-loop-to l =
-    Moves l.self.bytes.now l.at l.fn.nodes l.nodes l.g × Parsed 1 l.self.bytes.now l.self.base l.at l.fn.nodes l.nodes l.fn.names l.names l.g
+    Moves l.self.bytes.now l.at l.fn.nodes l.nodes l.g × Parsed 1 l.self.bytes.now l.self.base l.at l.fn.nodes l.nodes l.fn.names l.names l.g × Lent l.fn.nodes l.nodes l.fn.names l.names
 
 abbrev pub decreases-operand-loop-to : goal.decreases-operand-loop-to
 decreases-operand-loop-to l = length l.self.bytes.now - l.g.to
 
 abbrev pub invariant-test-loop-to : goal.invariant-test-loop-to
 invariant-test-loop-to l =
-    Moves l.self.bytes.now l.at l.fn.nodes l.nodes l.g × Testing l.self.bytes.now l.self.base l.at l.fn.nodes l.nodes l.fn.names l.names l.g
+    Moves l.self.bytes.now l.at l.fn.nodes l.nodes l.g × Testing l.self.bytes.now l.self.base l.at l.fn.nodes l.nodes l.fn.names l.names l.g × Lent l.fn.nodes l.nodes l.fn.names l.names
 
 abbrev pub decreases-test-loop-to : goal.decreases-test-loop-to
 decreases-test-loop-to l = length l.self.bytes.now - l.g.to

@@ -10,4 +10,5 @@ returns-in-Local c =
       named_by_it = λ inside.
           target-local t.variable (slice c.args.self.bytes.now t.from t.to) c.in-Local.is
           (learnt-there c.own.result t.from t.to (omega arith) (omega arith) inside c.own.ensures.where_they_lie c.learn.ensures.one_more_if_new);
+      lent = c.learn.ensures.lent;
     }
