@@ -14,9 +14,12 @@ use Rattle.store.specs.Tables.{Tables, pairs, made, read, write}
 use Rattle.store.specs.Filed.{Filed, place_of, same_place, fits, Files}
 use Rattle.store.specs.ValuesLemmas.{meaning-grown}
 use Rattle.store.proofs.Rows.{file-found, file-none}
-use Rattle.store.proofs.Filing.{files-length, files-pairs, files-make, files-found, files-nothing, files-file}
+use Rattle.store.proofs.Filing.{files-none, files-length, files-pairs, files-make, files-found, files-nothing, files-file}
 use Rattle.list.specs.declared.Pair.{Pair}
 use Rattle.list.specs.Listed.{filed, Holds, Inside}
+
+-- what holds of no pairs
+pub ruleset nothing = (files-none)
 
 filed-grown : (u : ℕ) (m n : Memory) → Grown u m n → (ps : List Pair) → Inside ps u → map (filed m) ps ≡ map (filed n) ps
 filed-grown u m n g [] a = refl

@@ -51,6 +51,7 @@ pub struct ListStore<'p> {
 
 impl<'p> ListStore<'p> {
     // An empty store over lent memory: it can hold what both the capacity and the memory allow.
+    #[tactic(auto, using(crate::proofs::Listing::nothing))]
     pub fn new(pairs: &'p mut [Pair], capacity: Capacity) -> ListStore<'p>
         ensures holds { (m : Memory) → Holds (held result.pairs) result.tables.made m [] }
         ensures within { (u : ℕ) → Inside (held result.pairs) u }
@@ -85,6 +86,7 @@ impl Store for ListStore<'_> {
 
     fn lent_more(&self) {}
 
+    #[tactic(auto, using(crate::proofs::Listing::nothing))]
     fn clear(&mut self) {
         self.pairs.clear();
         self.tables.clear();

@@ -1,4 +1,4 @@
-use Rattle.std.proofs.Common.{length}
+use Rattle.std.proofs.Common.{length, arith}
 use Rattle.store.proofs.Counting.{makes}
 use Rattle.buckets.specs.Stored.{Holds}
 use Rattle.buckets.proofs.Chaining.{fit}
@@ -11,5 +11,8 @@ returns-clause-holds c = λ m T h.
     let es = s.entries.now in
     let many = length s.chains.now in
     let n = s.tables.made in
-    makes (λ k. Holds es many s.len k m) s.tables.most n c.make.new.self.made c.make.result T
-    (holds-length es s.len (fit s) many n m T h) h (holds-make es s.len (fit s) many n m T h) c.make.ensures.made
+    grind (
+      arith,
+      makes (λ k. Holds es many s.len k m) s.tables.most n c.make.new.self.made c.make.result T
+          (holds-length es s.len (fit s) many n m T h) h (holds-make es s.len (fit s) many n m T h) c.make.ensures.made,
+    )

@@ -1,3 +1,4 @@
+use Rattle.std.proofs.Common.{arith}
 use Rattle.stack.specs.Held.{held}
 use Rattle.store.proofs.Counting.{makes}
 use Rattle.list.specs.Listed.{Holds}
@@ -9,4 +10,4 @@ returns-clause-holds c = λ m T h.
     let s = c.args.self.now in
     let ps = held s.pairs in
     let n = s.tables.made in
-    makes (λ k. Holds ps k m) s.tables.most n c.make.new.self.made c.make.result T (holds-length ps n m T h) h (holds-make ps n m T h) c.make.ensures.made
+    grind (arith, makes (λ k. Holds ps k m) s.tables.most n c.make.new.self.made c.make.result T (holds-length ps n m T h) h (holds-make ps n m T h) c.make.ensures.made)
