@@ -158,7 +158,7 @@ mutual
 
 -- names and their count, through a stack that has room for one more
 module _ {text : List ℕ} {us lent back : List Span} {s t : Stack Span} {m k count kept r : ℕ} (e : Expr ℕ) (l : ℕ) (rest : List Span)
-    (least : l ≡ min (length us) 16) (some : lent ≡ take l us) (others : length rest ≡ 17 - l)
+    (least : l ≡ min (length us) 17) (some : lent ≡ take l us) (others : length rest ≡ 17 - l)
     (size : room s ≡ length (lent ++ rest)) (begun : held s ≡ take k (lent ++ rest)) (as-many : k ≡ m) (learns : (ns : List (List ℕ)) → in-stack.Knows text s ns → in-stack.Knows text t (names_after ns e))
     (counted : count ≡ length (held t)) (few : kept ≡ min count l) (copied : back ≡ take kept (held t)) (known : r ≡ min count 17) where
   pub names-apart : (ns : List (List ℕ)) → Knows text us m ns → Knows text (back ++ drop kept us) r (names_after ns e)

@@ -226,7 +226,7 @@ pub fn sequence(
     ensures moves { IfOk result (λ g. Moves text.now at n g) }
     ensures reads { MatchResult result (λ g. Sequence text.now base at nodes.old nodes.new names.old names.new n m g) (λ s. Refused 4 text.now at s.0) }
 {
-    let lent = names.len().min(NAMES);
+    let lent = names.len().min(NAMES + 1);
     let mut spans = [Span::default(); NAMES + 1];
     spans[..lent].copy_from_slice(&names[..lent]);
     let mut known = Stack::resume(&mut spans, usize::from(m));
