@@ -232,10 +232,11 @@ pub fn sequence(
     let mut known = Stack::resume(&mut spans, usize::from(m));
     let mut nodes = Table::resume(nodes, n);
     let text = Text { bytes: text, base };
-    let got = text.sequence(at, &mut nodes, &mut known)?;
+    let read = text.sequence(at, &mut nodes, &mut known);
     let count = known.len();
     let kept = count.min(lent);
     names[..kept].copy_from_slice(&known.items()[..kept]);
+    let got = read?;
     Ok(Got {
         to: got.to,
         nodes: nodes.count(),
