@@ -86,8 +86,8 @@ impl<'c, 'r, 'm, 'o> Run<'c, 'r, 'm, 'o> {
         Ok(())
     }
 
-    // A run that stands in lent memory with these numbers. Numbers that no run has there are refused, and nothing is written.
-    // A caller who keeps his globals where that is so asks `room_for` first.
+    // A run that stands in lent memory with these numbers. Numbers that no run has there are refused.
+    // No clause can say what is lent where that is so: a caller who keeps that and his globals asks `room_for` first.
     pub fn resume(
         calls: Calls,
         callers: &'c mut [Frame],
