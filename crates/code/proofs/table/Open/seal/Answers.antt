@@ -14,5 +14,5 @@ pub returns : goal.returns
 returns c =
     record {
       all_that_was_laid = λ m xs P d l.
-          more-functions l _ (front _ _ _ _ (c.copy_from_slice.ensures.after ∙ c.deref.ensures.0) c.len-functions.ensures.value ∙ c.push.ensures.items);
+          more-functions l _ (front _ _ _ _ (c.copy_from_slice.ensures.after ∙ c.deref.ensures.0) (omega arith) ∙ c.push.ensures.items);
     }
