@@ -11,7 +11,7 @@ pub returns-in_err-index-clause-of_the_program : goal.returns-in_err-index-claus
 returns-in_err-index-clause-of_the_program c =
     let k = c.in_ok-extent.ensures.lookup in
     λ m. rw c.from_residual-in_err-index.ensures
-    (sym (looked-up m _ _ _ _ _ _ c.in_ok-extent.extent.now refl c.from.ensures k.3.0 k.1 ∙ past-code m _ _ _ c.in_err-index.ensures.within))
+    (sym (looked-up m _ _ _ _ _ _ c.in_ok-extent.extent.now refl c.from.ensures k.3.0 k.1 ∙ past-code m _ _ _ (omega (arith, c.in_err-index.ensures.within))))
 
 pub returns-in_err-record-clause-of_the_program : goal.returns-in_err-record-clause-of_the_program
 returns-in_err-record-clause-of_the_program c =
@@ -28,6 +28,6 @@ returns-clause-of_the_program c =
     let e : get_or c.args.records.now (c.in_ok-extent.extent.now.start + c.args.pc.0) c.in_ok-record.record.now ≡ c.in_ok-record.record.now = rw (← i.1) (sym r.1) in
     λ m. sym (
     looked-up m _ _ _ _ _ _ c.in_ok-extent.extent.now refl c.from.ensures k.3.0 k.1
-    ∙ in_code m _ _ _ c.in_ok-record.record.now i.0 (omega (arith, r.3.0, i.1))
+    ∙ in_code m _ _ _ c.in_ok-record.record.now (omega arith) (omega (arith, r.3.0, i.1))
     ∙ ap (λ x. Some (meant m x)) e
     )
