@@ -73,10 +73,11 @@ module _ (ps : List Pair) (n : ℕ) (m : Memory) (T : Tables) (h : Holds ps n m 
         (files-file (map (filed m) ps) n T h k.location.0 (meaning m k.value) (meaning m v) lt)
 
     -- a new key goes behind the others
-    pub holds-push : (v : Value) → None ≡ first_place (λ (p : Pair). same_place (place_of m p.key) (place_of m k)) ps → k.location.0 < n
-        → Holds (ps ++ (record { key = k; value = v }) ∷ []) n m (write T k.location.0 (meaning m k.value) (meaning m v))
-    holds-push v f lt =
+    pub holds-push : (v : Value) (qs : List Pair) → qs ≡ ps ++ (record { key = k; value = v }) ∷ [] → None ≡ first_place (λ (p : Pair). same_place (place_of m p.key) (place_of m k)) ps → k.location.0 < n
+        → Holds qs n m (write T k.location.0 (meaning m k.value) (meaning m v))
+    holds-push v qs e f lt =
         subst (λ (z : List Filed). Files z n (write T k.location.0 (meaning m k.value) (meaning m v)))
         (file-none (place_of m k) (meaning m v) (map (filed m) ps) (first_place-map (filed m) (fits (place_of m k)) ps ∙ sym f)
-        ∙ sym (map-append (filed m) ps (record { key = k; value = v } ∷ [])))
+        ∙ sym (map-append (filed m) ps (record { key = k; value = v } ∷ []))
+        ∙ sym (ap (map (filed m)) e))
         (files-file (map (filed m) ps) n T h k.location.0 (meaning m k.value) (meaning m v) lt)

@@ -41,11 +41,10 @@ returns-in-Ok-clause-holds c = λ T h.
     let m = memory_of c.args.bytes in
     let first = c.in-None.ensures.first in
     let there = holds-made (held s.pairs) s.tables.made m T h c.args.key.location.0 c.in_ok-check.ensures.made in
-    let none = holds-none (held s.pairs) s.tables.made m T h c.args.key first in
-    rw c.in-Ok.ensures.held (
+    let none = holds-none (held s.pairs) s.tables.made m T h c.args.key first in (
       there,
       takes-new (room s.pairs) T _ _ there none ∙ lt-ltb _ _ (omega (arith, holds-pairs (held s.pairs) s.tables.made m T h, c.in-Ok.ensures.full)),
-      holds-push (held s.pairs) s.tables.made m T h c.args.key c.args.value first c.in_ok-check.ensures.made,
+      holds-push (held s.pairs) s.tables.made m T h c.args.key c.args.value _ (grind (arith, c.in-Ok.ensures.held)) first c.in_ok-check.ensures.made,
     )
 
 pub returns-in-Err-clause-holds : goal.returns-in-Err-clause-holds
