@@ -9,6 +9,8 @@ use Rattle.grammar.specs.Following.{Calm, Last}
 use Rattle.grammar.specs.Notes.{note_of, forget}
 use Rattle.grammar.specs.Measure.{nodes, learn, names_after}
 use Rattle.nodes.specs.declared.node.Node.{Node}
+use Rattle.nodes.specs.declared.node.Form.{Form}
+use Rattle.nodes.specs.declared.node.Form.TheVariants as form
 use Rattle.nodes.specs.Trees.{Lies, at, TreeAt}
 use Rattle.syntax.specs.declared.apart.Target as declared
 use Rattle.syntax.specs.declared.apart.Got.{Got}
@@ -38,6 +40,11 @@ meant text t = named t.field (slice text t.from t.to)
 
 pub record LearnsTarget (text : List ℕ) (us vs : List Span) (m : ℕ) (t : Target) (r : ℕ) : Type 0 where
   pub learns : (ns : List (List ℕ)) → Knows text us m ns → Knows text vs r (learn_target ns t)
+
+-- the form of a write to a field or a local
+abbrev pub written_form : Bool → Span → ℕ → Form
+written_form false s r = form.SetLocal s r
+written_form true s r = form.SetField s r
 
 -- what was counted from n nodes and m names on is the expression's
 pub record Measured (text : List ℕ) (us vs : List Span) (n m : ℕ) (g : Got) (e : Expr ℕ) : Type 0 where

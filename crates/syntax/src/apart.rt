@@ -7,7 +7,7 @@ ghost use Rattle.syntax.specs.Left.{left};
 ghost use Rattle.syntax.specs.Sight.{shown};
 ghost use Rattle.syntax.specs.Sizes.{lone};
 ghost use Rattle.syntax.specs.Parsing.{Refused};
-ghost use Rattle.syntax.specs.LentApart.{meant, Learns, LearnsTarget, Parsed, Sequence, Moves, Put};
+ghost use Rattle.syntax.specs.LentApart.{meant, written_form, Learns, LearnsTarget, Parsed, Sequence, Moves, Put};
 
 use crate::limits::{NAMES, STRING};
 use crate::names::own;
@@ -22,7 +22,7 @@ use text::search::first_equal;
 use text::span::{Bytes, Span};
 
 // Stands for all counts of names that are more than a body may have.
-const MANY: u8 = 17;
+const MANY: u8 = NAMES as u8 + 1;
 
 // A token's sort, and its bytes: `from` up to `to`.
 #[derive(Clone, Copy)]
@@ -108,6 +108,25 @@ pub fn put(nodes: &mut [Node], n: u16, m: u8, node: Node, to: u16, size: Size) -
         root: got.root,
         place: got.place,
         size: got.size,
+    }
+}
+
+// The form of a write.
+pub fn written(base: u16, target: Target, root: u16) -> Form
+    requires { target.from ≤ target.to }
+    ensures by_its_target { result ≡ written_form target.field (span_of base target.from target.to) root }
+{
+    let Target {
+        field,
+        from,
+        to,
+        ..
+    } = target;
+    let name = span(base, from, to);
+    if field {
+        Form::SetField(name, root)
+    } else {
+        Form::SetLocal(name, root)
     }
 }
 
