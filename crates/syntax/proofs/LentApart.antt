@@ -157,9 +157,9 @@ mutual
   names-longer-args ns (Args.more xs e) = let p = names-longer-args ns xs in let q = names-longer (names_after_args ns xs) e in omega arith
 
 -- names and their count, through a stack that has room for one more
-module _ {text : List ℕ} {us lent back : List Span} {s t : Stack Span} {m k count kept r : ℕ} (e : Expr ℕ) (l : ℕ) (rest : List Span)
+module _ {text : List ℕ} {us lent back : List Span} {s t : Stack Span} {m count kept r : ℕ} (e : Expr ℕ) (l k : ℕ) (rest : List Span)
     (least : l ≡ min (length us) 17) (some : lent ≡ take l us) (others : length rest ≡ 17 - l)
-    (size : room s ≡ length (lent ++ rest)) (begun : held s ≡ take k (lent ++ rest)) (as-many : k ≡ m) (learns : (ns : List (List ℕ)) → in-stack.Knows text s ns → in-stack.Knows text t (names_after ns e))
+    (size : room s ≡ length (lent ++ rest)) (begun : held s ≡ take k (lent ++ rest)) (as-many : min k 17 ≡ min m 17) (learns : (ns : List (List ℕ)) → in-stack.Knows text s ns → in-stack.Knows text t (names_after ns e))
     (counted : count ≡ length (held t)) (few : kept ≡ min count l) (copied : back ≡ take kept (held t)) (known : r ≡ min count 17) where
   pub names-apart : (ns : List (List ℕ)) → Knows text us m ns → Knows text (back ++ drop kept us) r (names_after ns e)
   names-apart ns q =
@@ -182,8 +182,9 @@ module _ {text : List ℕ} {us lent back : List Span} {s t : Stack Span} {m k co
       let stay = names-longer ms e in
       record { room = size-after; many = omega arith; words = λ h. absurd (omega arith) })
       (λ (le : m ≤ 16).
+      let as-few : k ≡ m = omega arith in
       let same : ms ≡ ns =
-      ap (map f) (begun ∙ ap (λ z. take z (lent ++ rest)) as-many ∙ ap (λ z. take m (z ++ rest)) all ∙ take-append-le m us rest (omega arith)) ∙ q.words le in
+      ap (map f) (begun ∙ ap (λ z. take z (lent ++ rest)) as-few ∙ ap (λ z. take m (z ++ rest)) all ∙ take-append-le m us rest (omega arith)) ∙ q.words le in
       let words-after : map f (held t) ≡ take 17 (names_after ns e) = after.words ∙ ap (λ z. take 17 (names_after z e)) same in
       let count-after : count ≡ min 17 (length (names_after ns e)) = held-count ∙ ap (λ z. min 17 (length (names_after z e))) same in
       record {
